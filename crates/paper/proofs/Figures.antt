@@ -1,0 +1,99 @@
+-- P1 to P13, and E's text, as document 01 states them, and the further cases: each one computation against the definitions. Assumes nothing.
+use mathlib.Core.Path.{_≡_, refl}
+use Rattle.paper.specs.Lists.{both, allBelow, leastFail, tabulate, joined, part, sameList, inFront}
+use Rattle.paper.specs.Words.{after}
+use Rattle.paper.specs.Chart.{letters, join, atMost, prod, gradeFrom, startVec, endVec, entry}
+use Rattle.paper.specs.Check.{sizesFit, headFits, gradeFits, gradesFit, laws, lawAt, lawAtTwo, lawAtOne, lawHolds, brokenLaw, brokenA, brokenB, brokenC, brokenAt, shapeOf, checkReply, chartFits}
+use Rattle.paper.specs.Vectors.{joins, rowTerm, rowEntry, rowTimes, colTerm, colEntry, timesCol, combineTerm, combine, vectorOf, endGrade, gradeOf, reverseOf, startGrade}
+use Rattle.paper.specs.Numbering.{place, kept, expanded, explored, states, firstWords}
+use Rattle.paper.specs.Tables.{twoBytes, sizeFits, nextFits, rowFits, tableFits, tableFitsChart, tableReply, stepReply, gradeReply, nextBy, stateOf, tableGrade, letterFits, badLetter, wordReply, capOf, capReply, stateAfter, readerTakes, readerState, stepCode, gradeCode}
+use Rattle.paper.specs.Constructions.{statesOf, nextBytes, rowOf, stateRow, tableOf, letterKey, reducedKey, reverseStates, firstRowAt, firstRow, rowAfterAt, rowAfter, rowGrade, rowStates}
+use Rattle.paper.specs.Builders.{placeOf, placed, vectorAt, roomFits, forwardRoom, forwardBuilt, forward, nerode, reduced, allZeros, backwardRoom, backwardBuilt, brzozowski}
+use Rattle.paper.specs.Sheets.{lineAt, lineState, lineVector, lineGradeFits, lineFits, sheetFits, otherPair, onSheet, gradeHolds, nextHolds, lineHolds, badLine, lineReply, sheetReply}
+use Rattle.paper.specs.Frames.{hexed, framed, frame, digitOf, byteAt, digitFits, frameFits, payloadAt, payload}
+use Rattle.paper.specs.Texts.{linesOf, widthOf, duesFrom, dues, linesFrom, linesAfter, linesOfText, chartRead, linesRead, readChart, printed, rowLine, tableText, printTable, refusalText, printRefusal}
+use Rattle.paper.specs.Programs.{orRefusal, builtText, forwardText, backwardText, readText, program, nerodeMakes, reducedMakes, brzMakes}
+use Rattle.paper.specs.Figures.{bytesOf, lines, chartE, textE, printedE, tableE, sheetE, chart32, chart2, chart13, reply, nerodeIn, reducedIn, brzIn, count, worked, stated}
+use Rattle.paper.specs.SampleBuilds.{nines, forwardLeft, backwardLeft, bare, larger, largerOfFour, brokenTables, brokenDue, shortCharts, orderE, oneSided, oneSidedWords, forwards, nerodeE, vectorsE, forwardsDue, wordsE, wordsDue, lentE, backwards, backwardsDue, buildsTried, buildsDue}
+use Rattle.paper.specs.SampleWalks.{steps, stepsDue, grades, gradesDue, sheets, filled, linesInTwo, text13, readings, readingsDue, printings, printedNerodeE, printingsDue, walksTried, walksDue}
+
+-- what opens the definitions of each file, for the computations below
+of-lists : Unit {0}
+unfolding both allBelow leastFail tabulate joined part sameList inFront
+of-lists = tt
+
+of-words : Unit {0}
+unfolding after
+of-words = tt
+
+of-chart : Unit {0}
+unfolding letters join atMost prod gradeFrom startVec endVec entry
+of-chart = tt
+
+of-check : Unit {0}
+unfolding sizesFit headFits gradeFits gradesFit laws lawAt lawAtTwo lawAtOne lawHolds brokenLaw brokenA brokenB brokenC brokenAt shapeOf checkReply chartFits
+of-check = tt
+
+of-vectors : Unit {0}
+unfolding joins rowTerm rowEntry rowTimes colTerm colEntry timesCol combineTerm combine vectorOf endGrade gradeOf reverseOf startGrade
+of-vectors = tt
+
+of-numbering : Unit {0}
+unfolding place kept expanded explored states firstWords
+of-numbering = tt
+
+of-tables : Unit {0}
+unfolding twoBytes sizeFits nextFits rowFits tableFits tableFitsChart tableReply stepReply gradeReply nextBy stateOf tableGrade letterFits badLetter wordReply capOf capReply stateAfter readerTakes readerState stepCode gradeCode
+of-tables = tt
+
+of-constructions : Unit {0}
+unfolding statesOf nextBytes rowOf stateRow tableOf letterKey reducedKey reverseStates firstRowAt firstRow rowAfterAt rowAfter rowGrade rowStates
+of-constructions = tt
+
+of-builders : Unit {0}
+unfolding placeOf placed vectorAt roomFits forwardRoom forwardBuilt forward nerode reduced allZeros backwardRoom backwardBuilt brzozowski
+of-builders = tt
+
+of-sheets : Unit {0}
+unfolding lineAt lineState lineVector lineGradeFits lineFits sheetFits otherPair onSheet gradeHolds nextHolds lineHolds badLine lineReply sheetReply
+of-sheets = tt
+
+of-frames : Unit {0}
+unfolding hexed framed frame digitOf byteAt digitFits frameFits payloadAt payload
+of-frames = tt
+
+of-texts : Unit {0}
+unfolding linesOf widthOf duesFrom dues linesFrom linesAfter linesOfText chartRead linesRead readChart printed rowLine tableText printTable refusalText printRefusal
+of-texts = tt
+
+of-programs : Unit {0}
+unfolding orRefusal builtText forwardText backwardText readText program nerodeMakes reducedMakes brzMakes
+of-programs = tt
+
+of-figures : Unit {0}
+unfolding bytesOf lines chartE textE printedE tableE sheetE chart32 chart2 chart13 reply nerodeIn reducedIn brzIn count worked stated
+of-figures = tt
+
+of-sample-builds : Unit {0}
+unfolding nines forwardLeft backwardLeft bare larger largerOfFour brokenTables brokenDue shortCharts orderE oneSided oneSidedWords forwards nerodeE vectorsE forwardsDue wordsE wordsDue lentE backwards backwardsDue buildsTried buildsDue
+of-sample-builds = tt
+
+of-sample-walks : Unit {0}
+unfolding steps stepsDue grades gradesDue sheets filled linesInTwo text13 readings readingsDue printings printedNerodeE printingsDue walksTried walksDue
+of-sample-walks = tt
+
+definitions : Unit {0}
+unfolding of-lists of-words of-chart of-check of-vectors of-numbering of-tables of-constructions of-builders of-sheets of-frames of-texts of-programs of-figures of-sample-builds of-sample-walks
+definitions = tt
+
+pub figures : worked ≡ stated
+unfolding definitions
+figures = refl
+
+pub samples-of-builds : buildsTried ≡ buildsDue
+unfolding definitions
+samples-of-builds = refl
+
+pub samples-of-walks : walksTried ≡ walksDue
+unfolding definitions
+samples-of-walks = refl

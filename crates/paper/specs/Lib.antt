@@ -1,0 +1,17 @@
+pub mod Lists
+pub mod Replies
+pub mod Words
+pub mod Chart
+pub mod Check
+pub mod Vectors
+pub mod Numbering
+pub mod Tables
+pub mod Constructions
+pub mod Builders
+pub mod Sheets
+pub mod Frames
+pub mod Texts
+pub mod Programs
+pub mod Figures
+pub mod SampleBuilds
+pub mod SampleWalks
