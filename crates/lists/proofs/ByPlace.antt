@@ -1,16 +1,15 @@
 -- Lists by place: lengths, elements and parts of what the definitions of Lists make. Assumes nothing.
 use mathlib.Core.Path.{_≡_, refl, sym, ap, ap₂, _∙_, subst}
 use mathlib.Core.Bool.{Bool, true, false, false≢true}
-use mathlib.Core.Logic.{_⊎_, inl, inr}
 use mathlib.Core.List.{List, [], _∷_, _++_}
 use Prim.Native.Nat.{ℕ, zero, suc, _+_, _*_, _≤_, _<_}
 use native.Mathlib.Nat.{not-suc-le-zero, zero-mul, suc-mul, mul-le-mul-right}
 use native.Mathlib.Omega.{arith}
 use lib.Arith.{digits-lt}
-use lib.ListN.{length, getD, take, drop, length-append, length-take, length-drop, List·getD-append}
-use lib.Seq.{getD-at, ext-getD, getD-append-add, getD-take, getD-drop, drop-at}
+use lib.ListN.{length, getD, length-append, length-take, length-drop, List·getD-append}
+use lib.Seq.{getD-at, ext-getD, getD-append-add, getD-take, getD-drop}
 use lib.Dec.{eqb}
-use borrow.Author.Tests.{eqb-true, eqb-false, eq-eqb}
+use borrow.Author.Tests.{eqb-true, eq-eqb}
 use Rattle.paper.specs.Lists.{pick, tabulate, joined, part, sameList}
 use Rattle.lists.proofs.Tests.{below-suc, not-both}
 

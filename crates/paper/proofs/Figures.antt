@@ -14,7 +14,8 @@ use Rattle.paper.specs.Frames.{hexed, framed, frame, digitOf, byteAt, di
 use Rattle.paper.specs.Texts.{linesOf, widthOf, duesFrom, dues, linesFrom, linesAfter, linesOfText, chartRead, linesRead, readChart, printed, rowLine, tableText, printTable, refusalText, printRefusal}
 use Rattle.paper.specs.Programs.{orRefusal, builtText, forwardText, backwardText, readText, program, nerodeMakes, reducedMakes, brzMakes}
 use Rattle.paper.specs.Figures.{bytesOf, lines, chartE, textE, printedE, tableE, sheetE, chart32, chart2, chart13, reply, nerodeIn, reducedIn, brzIn, count, worked, stated}
-use Rattle.paper.specs.SampleBuilds.{nines, forwardLeft, backwardLeft, bare, larger, largerOfFour, brokenTables, brokenDue, shortCharts, orderE, oneSided, oneSidedWords, forwards, nerodeE, vectorsE, forwardsDue, wordsE, wordsDue, lentE, backwards, backwardsDue, buildsTried, buildsDue}
+use Rattle.paper.specs.SampleCharts.{bare, larger, largerOfFour, brokenTables, brokenDue, shortCharts, orderE, oneSided, oneSidedWords, chartsTried, chartsDue}
+use Rattle.paper.specs.SampleBuilds.{nines, forwardLeft, backwardLeft, forwards, nerodeE, vectorsE, forwardsDue, toldByGrade, toldByLast, apart, apartDue, wordsE, wordsDue, lentE, backwards, backwardsDue, buildsTried, buildsDue}
 use Rattle.paper.specs.SampleWalks.{steps, stepsDue, grades, gradesDue, sheets, filled, linesInTwo, text13, readings, readingsDue, printings, printedNerodeE, printingsDue, walksTried, walksDue}
 
 -- what opens the definitions of each file, for the computations below
@@ -74,8 +75,12 @@ of-figures : Unit {0}
 unfolding bytesOf lines chartE textE printedE tableE sheetE chart32 chart2 chart13 reply nerodeIn reducedIn brzIn count worked stated
 of-figures = tt
 
+of-sample-charts : Unit {0}
+unfolding bare larger largerOfFour brokenTables brokenDue shortCharts orderE oneSided oneSidedWords chartsTried chartsDue
+of-sample-charts = tt
+
 of-sample-builds : Unit {0}
-unfolding nines forwardLeft backwardLeft bare larger largerOfFour brokenTables brokenDue shortCharts orderE oneSided oneSidedWords forwards nerodeE vectorsE forwardsDue wordsE wordsDue lentE backwards backwardsDue buildsTried buildsDue
+unfolding nines forwardLeft backwardLeft forwards nerodeE vectorsE forwardsDue toldByGrade toldByLast apart apartDue wordsE wordsDue lentE backwards backwardsDue buildsTried buildsDue
 of-sample-builds = tt
 
 of-sample-walks : Unit {0}
@@ -83,12 +88,16 @@ unfolding steps stepsDue grades gradesDue sheets filled linesInTwo text13 readin
 of-sample-walks = tt
 
 definitions : Unit {0}
-unfolding of-lists of-words of-chart of-check of-vectors of-numbering of-tables of-constructions of-builders of-sheets of-frames of-texts of-programs of-figures of-sample-builds of-sample-walks
+unfolding of-lists of-words of-chart of-check of-vectors of-numbering of-tables of-constructions of-builders of-sheets of-frames of-texts of-programs of-figures of-sample-charts of-sample-builds of-sample-walks
 definitions = tt
 
 pub figures : worked ≡ stated
 unfolding definitions
 figures = refl
+
+pub samples-of-charts : chartsTried ≡ chartsDue
+unfolding definitions
+samples-of-charts = refl
 
 pub samples-of-builds : buildsTried ≡ buildsDue
 unfolding definitions

@@ -1,12 +1,12 @@
 -- What a call answers and the paper's number and values are one-to-one: two answers that say the same are the same. Assumes nothing.
 use mathlib.Core.Path.{_≡_, refl, sym, _∙_, ap}
-use mathlib.Core.Bool.{Bool, true, false}
-use mathlib.Core.List.{List, [], _∷_}
+use mathlib.Core.Bool.{false}
+use mathlib.Core.List.{[], _∷_}
 use Prim.Native.Nat.{ℕ, _-_}
 use lib.ListN.{getD}
 use lib.Dec.{eqb}
 use Rattle.paper.specs.Lists.{pick}
-use Rattle.paper.specs.Replies.{Reply, said, shapeSaid, checkedSaid, verdictSaid, builtSaid, bothSaid, steppedSaid, gradedSaid, writtenSaid}
+use Rattle.paper.specs.Replies.{Reply, said, checkedSaid, verdictSaid, builtSaid, bothSaid, steppedSaid, gradedSaid, writtenSaid}
 use Rattle.paper.specs.declared.Refusal.{Refusal}
 use Rattle.paper.specs.declared.Refusal.the-variants.{Sizes, Short, Grade, Law, Room, Reverse, States, Letter, Table, Sheet, Start, Line, Next, Text}
 use Rattle.paper.specs.declared.Shape.{Shape}

@@ -4,15 +4,14 @@ use Prim.Native.Nat.{ℕ, suc, _*_}
 use Prim.Native.Char.{code}
 use Prim.Native.String.{String}
 use lib.ListN.{length, getD, take, set}
-use Rattle.paper.specs.Lists.{joined}
 use Rattle.paper.specs.Replies.{Reply}
 use Rattle.paper.specs.Chart.{startVec}
 use Rattle.paper.specs.Check.{checkReply}
 use Rattle.paper.specs.Vectors.{rowTimes, gradeOf}
 use Rattle.paper.specs.Constructions.{reverseStates}
-use Rattle.paper.specs.Builders.{Lent, nerode, reduced, brzozowski}
+use Rattle.paper.specs.Builders.{nerode, reduced, brzozowski}
 use Rattle.paper.specs.Sheets.{sheetReply}
-use Rattle.paper.specs.Programs.{blank, blankTable, blankVectors, program, nerodeMakes, reducedMakes, brzMakes}
+use Rattle.paper.specs.Programs.{blank, blankTable, blankVectors, program, brzMakes}
 
 -- ---- the charts
 

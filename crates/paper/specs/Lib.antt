@@ -13,5 +13,6 @@ pub mod Frames
 pub mod Texts
 pub mod Programs
 pub mod Figures
+pub mod SampleCharts
 pub mod SampleBuilds
 pub mod SampleWalks

@@ -1,7 +1,7 @@
 -- Choosing, and lists by place: what the other definitions are written in.
 use mathlib.Core.Bool.{Bool, true, false}
 use mathlib.Core.List.{List, [], _∷_, _++_}
-use Prim.Native.Nat.{ℕ, zero, suc, _+_, _*_}
+use Prim.Native.Nat.{ℕ, zero, suc, _*_}
 use lib.ListN.{length, take, drop, replicate}
 use lib.Dec.{eqb}
 

@@ -1,15 +1,14 @@
--- Cases of the chart check and the builders, worked by hand from document 01: the eight laws, and every byte left in memory of nines.
+-- Cases of the builders, worked by hand from document 01: every byte left in memory of nines.
 use mathlib.Core.List.{List, [], _∷_, _++_}
 use Prim.Native.Nat.{ℕ}
-use lib.ListN.{take, replicate, set}
-use Rattle.paper.specs.Check.{checkReply}
-use Rattle.paper.specs.Lists.{pick}
-use Rattle.paper.specs.Chart.{letters, startVec, atMost}
-use Rattle.paper.specs.Vectors.{rowTimes, gradeOf, reverseOf}
+use lib.ListN.{take, replicate}
+use Rattle.paper.specs.Chart.{letters, startVec}
+use Rattle.paper.specs.Vectors.{rowTimes}
 use Rattle.paper.specs.Numbering.{itself, firstWords}
 use Rattle.paper.specs.Builders.{Forward, Lent, Backward, nerode, reduced, brzozowski, vectorAt}
 use Rattle.paper.specs.Programs.{blank}
 use Rattle.paper.specs.Figures.{chartE, tableE, reply}
+use Rattle.paper.specs.SampleCharts.{larger}
 
 -- ---- memory that shows what is written
 
@@ -22,76 +21,7 @@ forwardLeft f = reply (f .reply) ∷ f .table ∷ f .vectors ∷ []
 unfoldable pub backwardLeft : Backward → List (List ℕ)
 backwardLeft b = reply (b .reply) ∷ b .left .table ∷ b .left .reverseTable ∷ b .left .reverseVectors ∷ b .left .rows ∷ []
 
--- ---- the chart check
-
--- grade tables with one state, one letter and no grade but 0
-unfoldable pub bare : ℕ → ℕ → List ℕ → List ℕ → List ℕ
-bare k e join prod = k ∷ e ∷ 1 ∷ 1 ∷ (join ++ (prod ++ (0 ∷ 0 ∷ 0 ∷ [])))
-
--- the larger of two grades
-unfoldable pub larger : List ℕ
-larger = 0 ∷ 1 ∷ 1 ∷ 1 ∷ []
-
-unfoldable pub largerOfFour : List ℕ
-largerOfFour = 0 ∷ 1 ∷ 2 ∷ 3 ∷ 1 ∷ 1 ∷ 2 ∷ 3 ∷ 2 ∷ 2 ∷ 2 ∷ 3 ∷ 3 ∷ 3 ∷ 3 ∷ 3 ∷ []
-
--- each law broken first, law 8 on its left side and on its right one; then tables whose unit is not the greatest grade
-unfoldable pub brokenTables : List (List ℕ)
-brokenTables =
-    reply (checkReply (bare 2 1 (0 ∷ 1 ∷ 1 ∷ 0 ∷ []) (0 ∷ 0 ∷ 0 ∷ 1 ∷ [])))
-    ∷ reply (checkReply (bare 2 1 (0 ∷ 1 ∷ 0 ∷ 1 ∷ []) (0 ∷ 0 ∷ 0 ∷ 1 ∷ [])))
-    ∷ reply (checkReply (bare 3 1 (0 ∷ 1 ∷ 0 ∷ 1 ∷ 1 ∷ 2 ∷ 0 ∷ 2 ∷ 2 ∷ []) (0 ∷ 0 ∷ 0 ∷ 0 ∷ 1 ∷ 2 ∷ 0 ∷ 2 ∷ 2 ∷ [])))
-    ∷ reply (checkReply (bare 2 1 (0 ∷ 0 ∷ 0 ∷ 1 ∷ []) (0 ∷ 0 ∷ 0 ∷ 1 ∷ [])))
-    ∷ reply (checkReply (bare 2 1 larger (1 ∷ 1 ∷ 1 ∷ 0 ∷ [])))
-    ∷ reply (checkReply (bare 2 1 larger (0 ∷ 1 ∷ 0 ∷ 1 ∷ [])))
-    ∷ reply (checkReply (bare 2 0 larger (0 ∷ 1 ∷ 1 ∷ 1 ∷ [])))
-    ∷ reply (checkReply (bare 4 1 largerOfFour (0 ∷ 0 ∷ 0 ∷ 0 ∷ 0 ∷ 1 ∷ 2 ∷ 3 ∷ 0 ∷ 2 ∷ 2 ∷ 3 ∷ 0 ∷ 3 ∷ 2 ∷ 3 ∷ [])))
-    ∷ reply (checkReply (bare 4 1 largerOfFour (0 ∷ 0 ∷ 0 ∷ 0 ∷ 0 ∷ 1 ∷ 2 ∷ 3 ∷ 0 ∷ 2 ∷ 2 ∷ 2 ∷ 0 ∷ 3 ∷ 3 ∷ 3 ∷ [])))
-    ∷ reply (checkReply (bare 3 1 (0 ∷ 1 ∷ 2 ∷ 1 ∷ 1 ∷ 2 ∷ 2 ∷ 2 ∷ 2 ∷ []) (0 ∷ 0 ∷ 0 ∷ 0 ∷ 1 ∷ 2 ∷ 0 ∷ 2 ∷ 2 ∷ [])))
-    ∷ []
-
-unfoldable pub brokenDue : List (List ℕ)
-brokenDue =
-    (4 ∷ 1 ∷ 1 ∷ 0 ∷ 0 ∷ [])
-    ∷ (4 ∷ 2 ∷ 0 ∷ 1 ∷ 0 ∷ [])
-    ∷ (4 ∷ 3 ∷ 0 ∷ 1 ∷ 2 ∷ [])
-    ∷ (4 ∷ 4 ∷ 1 ∷ 0 ∷ 0 ∷ [])
-    ∷ (4 ∷ 5 ∷ 0 ∷ 0 ∷ 1 ∷ [])
-    ∷ (4 ∷ 6 ∷ 0 ∷ 0 ∷ 0 ∷ [])
-    ∷ (4 ∷ 7 ∷ 1 ∷ 0 ∷ 0 ∷ [])
-    ∷ (4 ∷ 8 ∷ 3 ∷ 1 ∷ 2 ∷ [])
-    ∷ (4 ∷ 8 ∷ 3 ∷ 1 ∷ 2 ∷ [])
-    ∷ (0 ∷ 3 ∷ 1 ∷ 1 ∷ 1 ∷ 1 ∷ 4 ∷ 13 ∷ 22 ∷ 23 ∷ 24 ∷ 25 ∷ [])
-    ∷ []
-
--- under four bytes; k of 17; e of 3; under the layout's length; a grade of 3
-unfoldable pub shortCharts : List (List ℕ)
-shortCharts =
-    reply (checkReply (3 ∷ 2 ∷ 2 ∷ []))
-    ∷ reply (checkReply (set chartE 0 17))
-    ∷ reply (checkReply (set chartE 1 3))
-    ∷ reply (checkReply (take 33 chartE))
-    ∷ reply (checkReply (set chartE 33 3))
-    ∷ []
-
--- grade 1 is at most 2 in E, and 2 is not at most 1
-unfoldable pub orderE : List (List ℕ)
-orderE = (pick (atMost chartE 1 2) 1 0 ∷ pick (atMost chartE 2 1) 1 0 ∷ []) ∷ []
-
--- ---- words: a product that does not commute, so that 1 times 2 is 1 and 2 times 1 is 0
-
-unfoldable pub oneSided : List ℕ
-oneSided =
-    4 ∷ 3 ∷ 1 ∷ 1 ∷ (largerOfFour ++ (0 ∷ 0 ∷ 0 ∷ 0 ∷ 0 ∷ 0 ∷ 1 ∷ 1 ∷ 0 ∷ 0 ∷ 2 ∷ 2 ∷ 0 ∷ 1 ∷ 2 ∷ 3 ∷ 3 ∷ 2 ∷ 1 ∷ []))
-
-unfoldable pub oneSidedWords : List (List ℕ)
-oneSidedWords =
-    take 1 (reply (checkReply oneSided))
-    ∷ (gradeOf oneSided [] ∷ gradeOf oneSided (0 ∷ []) ∷ gradeOf oneSided (0 ∷ 0 ∷ []) ∷ [])
-    ∷ reverseOf oneSided (0 ∷ [])
-    ∷ []
-
--- ---- builders on memory of nines
+-- ---- Nerode and reduced Nerode
 
 -- room hit exactly, missed by one, and too little memory for it
 unfoldable pub forwards : List (List ℕ)
@@ -136,6 +66,26 @@ forwardsDue =
     ∷ nines 2
     ∷ []
 
+-- one state, whose two vectors 1 and 0 are told apart by their grades alone, or by the last letter alone
+unfoldable pub toldByGrade : List ℕ
+toldByGrade = 2 ∷ 1 ∷ 1 ∷ 1 ∷ (larger ++ (0 ∷ 0 ∷ 0 ∷ 1 ∷ 1 ∷ 1 ∷ 0 ∷ []))
+
+unfoldable pub toldByLast : List ℕ
+toldByLast = 2 ∷ 1 ∷ 1 ∷ 2 ∷ (larger ++ (0 ∷ 0 ∷ 0 ∷ 1 ∷ 1 ∷ 0 ∷ 0 ∷ 1 ∷ []))
+
+unfoldable pub apart : List (List ℕ)
+apart = forwardLeft (reduced toldByGrade 2 (nines 6) (nines 3)) ++ forwardLeft (reduced toldByLast 2 (nines 10) (nines 3))
+
+unfoldable pub apartDue : List (List ℕ)
+apartDue =
+    (0 ∷ 2 ∷ [])
+    ∷ (1 ∷ 0 ∷ 1 ∷ 0 ∷ 0 ∷ 1 ∷ [])
+    ∷ (1 ∷ 0 ∷ 0 ∷ [])
+    ∷ (0 ∷ 2 ∷ [])
+    ∷ (0 ∷ 0 ∷ 1 ∷ 0 ∷ 0 ∷ 0 ∷ 0 ∷ 1 ∷ 0 ∷ 1 ∷ [])
+    ∷ (1 ∷ 0 ∷ 0 ∷ [])
+    ∷ []
+
 -- the first words of E's Nerode states, and the vector behind a state
 unfoldable pub wordsE : List (List ℕ)
 wordsE =
@@ -144,6 +94,8 @@ wordsE =
 
 unfoldable pub wordsDue : List (List ℕ)
 wordsDue = [] ∷ (0 ∷ []) ∷ (1 ∷ []) ∷ (0 ∷ 1 ∷ []) ∷ (1 ∷ 1 ∷ []) ∷ (0 ∷ 1 ∷ 1 ∷ []) ∷ (1 ∷ 1 ∷ []) ∷ [] ∷ [] ∷ []
+
+-- ---- Brzozowski
 
 -- room for four states and three reverse vectors, with one byte more in each buffer
 unfoldable pub lentE : ℕ → ℕ → Lent
@@ -182,15 +134,7 @@ backwardsDue =
 -- ---- together
 
 unfoldable pub buildsTried : List (List (List ℕ))
-buildsTried = brokenTables ∷ shortCharts ∷ orderE ∷ oneSidedWords ∷ forwards ∷ wordsE ∷ backwards ∷ []
+buildsTried = forwards ∷ apart ∷ wordsE ∷ backwards ∷ []
 
 unfoldable pub buildsDue : List (List (List ℕ))
-buildsDue =
-    brokenDue
-    ∷ ((2 ∷ []) ∷ (1 ∷ []) ∷ (1 ∷ []) ∷ (2 ∷ []) ∷ (3 ∷ []) ∷ [])
-    ∷ ((1 ∷ 0 ∷ []) ∷ [])
-    ∷ ((0 ∷ []) ∷ (2 ∷ 1 ∷ 0 ∷ []) ∷ (1 ∷ []) ∷ [])
-    ∷ forwardsDue
-    ∷ wordsDue
-    ∷ backwardsDue
-    ∷ []
+buildsDue = forwardsDue ∷ apartDue ∷ wordsDue ∷ backwardsDue ∷ []

@@ -1,7 +1,7 @@
 -- Cases of walking, the sheet check and text, worked by hand from document 01.
 use mathlib.Core.List.{List, [], _∷_, _++_}
 use Prim.Native.Nat.{ℕ}
-use lib.ListN.{length, take, set}
+use lib.ListN.{take, set}
 use Rattle.paper.specs.Tables.{tableReply, stepReply, gradeReply, wordReply, capReply, readerState, stepCode, gradeCode}
 use Rattle.paper.specs.Sheets.{sheetReply}
 use Rattle.paper.specs.Texts.{Filled, linesOfText, linesRead, readChart, printTable, printRefusal}
@@ -75,7 +75,7 @@ gradesDue =
     ∷ (4 ∷ 6 ∷ 1 ∷ 0 ∷ 0 ∷ [])
     ∷ []
 
--- ---- sheets: another chart's letters, too many lines, a state and a grade out of range, a doubled line
+-- ---- sheets: another chart's letters, too few bytes, a state and a grade out of range, a doubled line, a last line that fails
 unfoldable pub sheets : List (List ℕ)
 sheets =
     reply (sheetReply chartE tableE 3 3 sheetE 6)
@@ -83,6 +83,7 @@ sheets =
     ∷ reply (sheetReply chartE tableE 3 2 (set sheetE 21 3) 6)
     ∷ reply (sheetReply chartE tableE 3 2 (set sheetE 23 3) 6)
     ∷ reply (sheetReply chartE tableE 3 2 (take 4 sheetE ++ sheetE) 7)
+    ∷ reply (sheetReply chartE tableE 3 2 sheetE 1)
     ∷ []
 
 -- ---- text
@@ -103,8 +104,8 @@ text13 =
 -- an upper-case digit; a broken law
 unfoldable pub readings : List (List ℕ)
 readings =
-    filled 35 (readChart textE (nines 9781))
-    ++ (filled 1 (readChart textE (nines 9779))
+    filled 35 (linesRead (linesOfText textE) (nines 35))
+    ++ (filled 2 (readChart textE (nines 2))
     ++ (linesInTwo (blank 22494)
     ++ (linesInTwo []
     ++ (linesInTwo (take 158 textE)
@@ -116,7 +117,7 @@ readings =
 unfoldable pub readingsDue : List (List ℕ)
 readingsDue =
     (0 ∷ 34 ∷ []) ∷ (chartE ++ (9 ∷ []))
-    ∷ (5 ∷ []) ∷ (9 ∷ [])
+    ∷ (5 ∷ []) ∷ (9 ∷ 9 ∷ [])
     ∷ (14 ∷ 0 ∷ []) ∷ (0 ∷ 0 ∷ [])
     ∷ (14 ∷ 1 ∷ []) ∷ (0 ∷ 0 ∷ [])
     ∷ (14 ∷ 13 ∷ []) ∷ (0 ∷ 0 ∷ [])
@@ -135,7 +136,7 @@ printings =
     ++ (filled 1 (printTable chartE tableE 3 3 (nines 85))
     ++ (filled 10 (printRefusal 14 (nines 10))
     ++ (filled 9 (printRefusal 14 (nines 8))
-    ++ (program nerodeMakes textE ∷ program reducedMakes textE ∷ program brzMakes [] ∷ [])))))
+    ++ (nerodeMakes chartE ∷ reducedMakes chartE ∷ program brzMakes [] ∷ [])))))
 
 unfoldable pub printedNerodeE : List ℕ
 printedNerodeE =
@@ -161,4 +162,4 @@ unfoldable pub walksTried : List (List (List ℕ))
 walksTried = steps ∷ grades ∷ sheets ∷ readings ∷ printings ∷ []
 
 unfoldable pub walksDue : List (List (List ℕ))
-walksDue = stepsDue ∷ gradesDue ∷ ((9 ∷ []) ∷ (10 ∷ []) ∷ (10 ∷ []) ∷ (10 ∷ []) ∷ (0 ∷ []) ∷ []) ∷ readingsDue ∷ printingsDue ∷ []
+walksDue = stepsDue ∷ gradesDue ∷ ((9 ∷ []) ∷ (10 ∷ []) ∷ (10 ∷ []) ∷ (10 ∷ []) ∷ (0 ∷ []) ∷ (13 ∷ 0 ∷ 0 ∷ []) ∷ []) ∷ readingsDue ∷ printingsDue ∷ []

@@ -1,9 +1,8 @@
 -- Charts, tables and refusals as text: reading a chart, printing a table or a refusal.
-use mathlib.Core.Bool.{Bool}
 use mathlib.Core.List.{List, [], _∷_, _++_}
 use Prim.Native.Nat.{ℕ, zero, suc, _+_, _*_}
 use lib.ListN.{length, replicate}
-use lib.Dec.{eqb, leb}
+use lib.Dec.{leb}
 use Rattle.paper.specs.Lists.{pick, unless, joined, part, inFront, zeros}
 use Rattle.paper.specs.Replies.{Reply, fine}
 use Rattle.paper.specs.Chart.{headSize, kOf, nOf, mOf, chartSize}
