@@ -1,13 +1,13 @@
 -- Choosing, and tests over numbers: what the definitions of Lists say, as facts. Assumes nothing.
 use mathlib.Core.Path.{_≡_, refl, sym, _∙_, subst}
-use mathlib.Core.Bool.{Bool, true, false, false≢true}
+use mathlib.Core.Bool.{Bool, true, false, not, false≢true}
 use mathlib.Core.Logic.{_⊎_, inl, inr}
 use Prim.Native.Nat.{ℕ, zero, suc, _+_, _≤_, _<_}
 use native.Mathlib.Nat.{eq-or-lt-of-le, not-suc-le-zero, le-of-suc-le-suc}
 use native.Mathlib.Numerals.{add-one}
 use native.Mathlib.Omega.{arith}
 use lib.Dec.{eqb}
-use borrow.Author.Tests.{eqb-true, eqb-false}
+use borrow.Author.Tests.{eqb-true, eqb-false, not-true, not-false}
 use Rattle.paper.specs.Lists.{pick, unless, both, allBelow, failAfter, leastFail}
 
 -- ---- choosing
@@ -41,6 +41,13 @@ pub unless-passed {ℓ κ} : {X : Type ℓ} (P : X → Type κ) (b : Bool) (x y 
 unless-passed P true x y f p = (refl, p)
 unless-passed P false x y f p = absurd (f p)
 
+-- what a called test tells, where the code goes by its negation
+pub fell : {t a : Bool} → t ≡ a → not t ≡ true → a ≡ false
+fell {t} e h = sym e ∙ not-true t h
+
+pub held : {t a : Bool} → t ≡ a → not t ≡ false → a ≡ true
+held {t} e h = sym e ∙ not-false t h
+
 -- ---- two tests
 
 pub both-left : (a b : Bool) → both a b ≡ true → a ≡ true
@@ -60,6 +67,11 @@ pub both-true : (a b : Bool) → a ≡ true → b ≡ true → both a b ≡ true
 unfolding both
 both-true true b p q = q
 both-true false b p q = p
+
+pub both-false : (a : Bool) → both a false ≡ false
+unfolding both
+both-false true = refl
+both-false false = refl
 
 pub both-not-left : (a b : Bool) → a ≡ false → both a b ≡ false
 unfolding both

@@ -1,0 +1,3 @@
+pub mod Bound
+pub mod Rows
+pub mod Walks

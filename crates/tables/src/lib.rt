@@ -1,0 +1,2 @@
+// Tables as bytes: checking and walking them.
+pub mod walk;

@@ -1,0 +1,176 @@
+// Walking a table: one step, one grade, the grade of a word.
+ghost use mathlib.Core.Path.{_≡_};
+ghost use Prim.Native.Nat.{_+_, _*_, _<_, _≤_};
+ghost use lib.ListN.{length};
+ghost use Rattle.paper.specs.Tables.{gradeAt, nextAt, sizeFits, rowFits, tableFits, badLetter, tableGrade, tableReply, stepReply, gradeReply, wordReply};
+ghost use Rattle.paper.specs.Replies.{verdictSaid, steppedSaid, gradedSaid};
+ghost use Rattle.tables.specs.Walking.{RowIn, Walkable, foundOf};
+use paper::Graded;
+use paper::Refusal;
+use paper::Stepped;
+use paper::Verdict;
+
+// The highest grade a table alone may have is one less.
+const GRADE_TOP: u8 = 16;
+
+// Where a search ended: at a place, or nowhere.
+pub(crate) enum Found {
+    At(usize),
+    Nothing,
+}
+
+fn wide(x: u8) -> usize
+    ensures { λ r. ⌜ (r ≡ x) × (r < 256) ⌝ }
+{
+    x as usize
+}
+
+fn size_fits(rows: &[u8], count: usize, m: usize) -> bool
+    ensures { λ r. ⌜ r ≡ sizeFits (now (rows .entry)) count m ⌝ }
+{
+    if count < 1 {
+        return false;
+    }
+    if 4096 < count {
+        return false;
+    }
+    if m < 1 {
+        return false;
+    }
+    if 16 < m {
+        return false;
+    }
+    count * (1 + 2 * m) <= rows.len()
+}
+
+fn grade_at(rows: &[u8], m: usize, s: usize) -> u8
+    requires { ⌜ RowIn (now rows) m s ⌝ }
+    ensures { λ r. ⌜ r ≡ gradeAt (now (rows .entry)) m s ⌝ }
+{
+    rows[s * (1 + 2 * m)]
+}
+
+fn next_at(rows: &[u8], m: usize, s: usize, x: usize) -> usize
+    requires { ⌜ RowIn (now rows) m s × (x < m) ⌝ }
+    ensures { λ r. ⌜ (r ≡ nextAt (now (rows .entry)) m s x) × (r < 65536) ⌝ }
+{
+    wide(rows[s * (1 + 2 * m) + (1 + 2 * x)]) * 256 + wide(rows[s * (1 + 2 * m) + (2 + 2 * x)])
+}
+
+fn row_fits(rows: &[u8], count: usize, m: usize, top: u8, s: usize) -> bool
+    requires { ⌜ RowIn (now rows) m s ⌝ }
+    ensures { λ r. ⌜ r ≡ rowFits (now (rows .entry)) count m top s ⌝ }
+{
+    if top <= grade_at(rows, m, s) {
+        return false;
+    }
+    let mut x = 0;
+    while x < m {
+        if count <= next_at(rows, m, s, x) {
+            return false;
+        }
+        x += 1;
+    }
+    true
+}
+
+// One step from a state by a letter.
+pub fn step(rows: &[u8], count: usize, m: usize, state: usize, letter: usize) -> Stepped
+    ensures { λ r. ⌜ steppedSaid r ≡ stepReply (now (rows .entry)) count m state letter ⌝ }
+{
+    if !size_fits(rows, count, m) {
+        return Stepped::Refused(Refusal::Table);
+    }
+    if count <= state {
+        return Stepped::Refused(Refusal::Table);
+    }
+    if m <= letter {
+        return Stepped::Refused(Refusal::Letter { at: 0 });
+    }
+    if !row_fits(rows, count, m, GRADE_TOP, state) {
+        return Stepped::Refused(Refusal::Table);
+    }
+    Stepped::Next(next_at(rows, m, state, letter) as u16)
+}
+
+// The grade of a state.
+pub fn grade(rows: &[u8], count: usize, m: usize, state: usize) -> Graded
+    ensures { λ r. ⌜ gradedSaid r ≡ gradeReply (now (rows .entry)) count m state ⌝ }
+{
+    if !size_fits(rows, count, m) {
+        return Graded::Refused(Refusal::Table);
+    }
+    if count <= state {
+        return Graded::Refused(Refusal::Table);
+    }
+    if !row_fits(rows, count, m, GRADE_TOP, state) {
+        return Graded::Refused(Refusal::Table);
+    }
+    Graded::Grade(grade_at(rows, m, state))
+}
+
+fn table_fits(rows: &[u8], count: usize, m: usize, top: u8) -> bool
+    ensures { λ r. ⌜ r ≡ tableFits (now (rows .entry)) count m top ⌝ }
+{
+    if !size_fits(rows, count, m) {
+        return false;
+    }
+    let mut s = 0;
+    while s < count {
+        if !row_fits(rows, count, m, top, s) {
+            return false;
+        }
+        s += 1;
+    }
+    true
+}
+
+// Whether a table, by itself, is one that can be walked from every state.
+pub fn check_table(rows: &[u8], count: usize, m: usize) -> Verdict
+    ensures { λ r. ⌜ verdictSaid r ≡ tableReply (now (rows .entry)) count m ⌝ }
+{
+    if !table_fits(rows, count, m, GRADE_TOP) {
+        return Verdict::Refused(Refusal::Table);
+    }
+    Verdict::Accepted
+}
+
+// The first place of a word whose letter is not one of m.
+fn bad_letter(word: &[u8], m: usize) -> Found
+    ensures { λ r. ⌜ r ≡ foundOf (length (now (word .entry))) (badLetter (now (word .entry)) m) ⌝ }
+{
+    let mut i = 0;
+    while i < word.len() {
+        if m <= wide(word[i]) {
+            return Found::At(i);
+        }
+        i += 1;
+    }
+    Found::Nothing
+}
+
+fn walk(rows: &[u8], count: usize, m: usize, word: &[u8]) -> u8
+    requires { ⌜ Walkable (now rows) count m (now word) ⌝ }
+    ensures { λ r. ⌜ r ≡ tableGrade (now (rows .entry)) m (now (word .entry)) ⌝ }
+{
+    let mut s = 0;
+    let mut i = 0;
+    while i < word.len() {
+        s = next_at(rows, m, s, wide(word[i]));
+        i += 1;
+    }
+    grade_at(rows, m, s)
+}
+
+// The grade of a word: the whole table is checked first, then all letters.
+pub fn grade_word(rows: &[u8], count: usize, m: usize, word: &[u8]) -> Graded
+    ensures { λ r. ⌜ gradedSaid r ≡ wordReply (now (rows .entry)) count m (now (word .entry)) ⌝ }
+{
+    if !table_fits(rows, count, m, GRADE_TOP) {
+        return Graded::Refused(Refusal::Table);
+    }
+    match bad_letter(word, m) {
+        Found::At(i) => Graded::Refused(Refusal::Letter { at: i }),
+        Found::Nothing => Graded::Grade(walk(rows, count, m, word)),
+    }
+}
