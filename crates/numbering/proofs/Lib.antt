@@ -1,0 +1,16 @@
+pub mod Words
+pub mod Order
+pub mod ListLaws
+pub mod Rising
+pub mod Place
+pub mod Pigeonhole
+pub mod Kept
+pub mod Explored
+pub mod Rest
+pub mod WordsListed
+pub mod Tried
+pub mod Grown
+pub mod Theorems
+pub mod TableFits
+pub mod TableBytes
+pub mod Built

@@ -1,0 +1,1 @@
+// The theory of the numbering by first word: it is in proofs/.
