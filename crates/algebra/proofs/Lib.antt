@@ -1,0 +1,10 @@
+pub mod ListLaws
+pub mod Checked
+pub mod Broken
+pub mod Joins
+pub mod Vectors
+pub mod Words
+pub mod Tables
+pub mod Smallest
+pub mod SheetSound
+pub mod SheetComplete

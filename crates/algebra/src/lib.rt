@@ -1,0 +1,1 @@
+// The algebra of checked charts: it is in proofs/.
