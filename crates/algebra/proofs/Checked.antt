@@ -1,6 +1,6 @@
 -- What a chart that is not refused satisfies: its sizes, its grades' range, and the laws of its grade tables. Assumes nothing.
-use mathlib.Core.Path.{_≡_, refl, _∙_, subst}
-use mathlib.Core.Bool.{Bool, true, false}
+use mathlib.Core.Path.{_≡_, _∙_, subst}
+use mathlib.Core.Bool.{true}
 use mathlib.Core.List.{List}
 use Prim.Native.Nat.{ℕ, _+_, _-_, _*_, _≤_, _<_}
 use native.Mathlib.Omega.{arith}
@@ -12,7 +12,7 @@ use Rattle.paper.specs.Lists.{both, unless}
 use Rattle.paper.specs.Replies.{Reply, fine}
 use Rattle.paper.specs.Chart.{headSize, kOf, eOf, nOf, mOf, letters, joinFrom, prodFrom, startFrom, endFrom, matrixFrom, chartSize, join, prod, gradeFrom, entry}
 use Rattle.paper.specs.Check.{sizesFit, headFits, gradeFits, gradesFit, laws, lawAt, lawAtTwo, lawAtOne, lawHolds, brokenLaw, brokenAt, shapeOf, checkReply, chartFits}
-use Rattle.lists.proofs.Tests.{not-both, both-left, both-right, both-split, unless-passed, all-at, least-all}
+use Rattle.lists.proofs.Tests.{not-both, both-left, both-right, both-split, unless-told, unless-passed, all-at, least-all}
 
 -- ---- the stages of the check
 
@@ -65,11 +65,7 @@ module _ (c : List ℕ) where
 
   -- an answer of a call that checks the chart first, where nothing is refused
   pub check-passed : (rest : Reply) → unless (chartFits c) (checkReply c) rest .0 ≡ 0 → (chartFits c ≡ true) × (rest .0 ≡ 0)
-  check-passed rest e = go (chartFits c) refl e
-    where
-      go : (b : Bool) → chartFits c ≡ b → unless b (checkReply c) rest .0 ≡ 0 → (chartFits c ≡ true) × (rest .0 ≡ 0)
-      go true q e = (q, e)
-      go false q e = absurd (not-both (number-fits e) q)
+  check-passed rest e = unless-told (λ (r : Reply). r .0 ≡ 0) (chartFits c) (checkReply c) rest (λ q n. not-both (number-fits n) q) e
 
 -- ---- sizes
 

@@ -1,7 +1,7 @@
 -- The sheet check refuses no honest sheet: the pairs that words reach, beside a table that grades as the chart does. Assumes nothing.
 use mathlib.Core.Path.{_≡_, sym, ap₂, _∙_, subst}
 use mathlib.Core.Bool.{true}
-use mathlib.Core.List.{List, [], _∷_, _++_}
+use mathlib.Core.List.{List, [], _++_}
 use Prim.Native.Nat.{ℕ, _*_, _≤_, _<_}
 use native.Mathlib.Omega.{arith}
 use lib.ListN.{length, getD, length-append}
@@ -11,40 +11,25 @@ use Rattle.paper.specs.Lists.{both, allBelow, joined}
 use Rattle.paper.specs.Words.{Word, after}
 use Rattle.paper.specs.Replies.{fine}
 use Rattle.paper.specs.Chart.{kOf, nOf, letters, startVec}
-use Rattle.paper.specs.Check.{chartFits}
 use Rattle.paper.specs.Vectors.{vectorOf, endGrade, gradeOf}
-use Rattle.paper.specs.Tables.{twoBytes, gradeAt, tableFitsChart, stateOf, tableGrade}
+use Rattle.paper.specs.Tables.{twoBytes, gradeAt, stateOf, tableGrade}
 use Rattle.paper.specs.Sheets.{lineSize, lineAt, lineState, lineVector, lineGradeFits, lineFits, sheetFits, onSheet, gradeHolds, nextHolds, lineHolds, badLine, sheetReply}
 use Rattle.lists.proofs.Tests.{both-true, all-by, least-none}
-use Rattle.lists.proofs.ByPlace.{length-joined}
-use Rattle.algebra.proofs.ListLaws.{word-append, part-joined}
+use Rattle.lists.proofs.ByPlace.{length-joined, part-joined}
+use Rattle.numbering.proofs.Words.{with, word-with}
+use Rattle.numbering.proofs.TableFits.{Table, state-low, state-with}
+use Rattle.numbering.proofs.TableBytes.{two-back}
+use Rattle.algebra.specs.Honest.{Right, wordLine, Honest}
 use Rattle.algebra.proofs.Checked.{Sound, sound}
-use Rattle.algebra.proofs.Vectors.{length-vector, vector-snoc, vector-grades}
-use Rattle.algebra.proofs.Tables.{Fits, chart-letters, chart-table, state-low, state-snoc}
+use Rattle.algebra.proofs.Vectors.{length-vector, vector-with, vector-grades}
+use Rattle.algebra.proofs.Tables.{chart-letters, chart-table}
 use Rattle.algebra.proofs.SheetSound.{listed-on}
-
--- the sheet line of a word: the table state and the vector that it reaches
-unfoldable pub wordLine : List ℕ → List ℕ → ℕ → List ℕ → List ℕ
-wordLine c rows m u = twoBytes (stateOf rows m u) ++ vectorOf c u
-
--- a table that fits beside a chart that is not refused, and grades every word as it does
-pub record Right (c rows : List ℕ) (count m : ℕ) : Type 0 where
-  pub chart : chartFits c ≡ true
-  pub table : tableFitsChart c rows count m ≡ true
-  pub graded : (u : List ℕ) → Word m u → tableGrade rows m u ≡ gradeOf c u
-
--- at most 4,096 lines that are exactly the pairs that words reach, in any order; that each stands there once is not needed
-pub record Honest (c rows : List ℕ) (m : ℕ) (sheet : List ℕ) (lines : ℕ) : Type 0 where
-  pub few : lines ≤ 4096
-  pub long : lines * lineSize c ≤ length sheet
-  pub each : (i : ℕ) → i < lines → (u : List ℕ) × (Word m u × (lineAt c sheet i ≡ wordLine c rows m u))
-  pub every : (u : List ℕ) → Word m u → (i : ℕ) × ((i < lines) × (lineAt c sheet i ≡ wordLine c rows m u))
 
 module _ (c rows : List ℕ) (count : ℕ) (right : Right c rows count (letters c)) where
   ok : Sound c
   ok = sound c (right .chart)
 
-  fits : Fits rows count (letters c) (kOf c)
+  fits : Table rows count (letters c) (kOf c)
   fits = chart-table c rows count (letters c) (right .table)
 
   -- ---- a line read back
@@ -54,8 +39,7 @@ module _ (c rows : List ℕ) (count : ℕ) (right : Right c rows count (letters 
     unfolding lineState wordLine twoBytes
     state-back =
         let l = state-low rows count (letters c) (kOf c) fits u w in
-        let h : stateOf rows (letters c) u < 4096 = omega (arith, fits .count-high) in
-        rw e (omega arith)
+        rw e (two-back (stateOf rows (letters c) u) (omega (arith, fits .sized .count-high)))
 
     vector-back : lineVector c sheet i ≡ vectorOf c u
     unfolding lineVector wordLine twoBytes
@@ -99,7 +83,7 @@ module _ (c rows : List ℕ) (count : ℕ) (right : Right c rows count (letters 
     line-next i x l hx =
         let u = h .each i l in
         rw (state-back sheet i (u .0) (u .1 .0) (u .1 .1), vector-back sheet i (u .0) (u .1 .0) (u .1 .1))
-        (rw (state-snoc rows (letters c) (u .0) x, vector-snoc c (u .0) x) at (reached (u .0 ++ (x ∷ [])) (word-append (letters c) (u .0) (x ∷ []) (u .1 .0) (hx, tt))))
+        (rw (state-with rows (letters c) (u .0) x, vector-with c (u .0) x) at (reached (with x (u .0)) (word-with (letters c) (u .0) x (u .1 .0) hx)))
 
     line-holds : (i : ℕ) → i < lines → lineHolds c rows sheet lines i ≡ true
     unfolding lineHolds
@@ -136,9 +120,9 @@ laid-out c rows m count word more few words every =
     record {
       few = few;
       long = omega (arith, length-append (joined count line) more, length-joined count (lineSize c) line size);
-      each = λ i l. (word i, (words i l, part-joined count (lineSize c) line more size i l));
+      each = λ i l. (word i, (words i l, part-joined 0 count (lineSize c) line more size i l));
       every = λ u w. let f = every u w in
-          (f .0, (f .1 .0, part-joined count (lineSize c) line more size (f .0) (f .1 .0) ∙ ap₂ (λ s v. twoBytes s ++ v) (f .1 .1 .0) (f .1 .1 .1)));
+          (f .0, (f .1 .0, part-joined 0 count (lineSize c) line more size (f .0) (f .1 .0) ∙ ap₂ (λ s v. twoBytes s ++ v) (f .1 .1 .0) (f .1 .1 .1)));
     }
   where
     line : ℕ → List ℕ

@@ -1,13 +1,13 @@
 -- Rows, columns and vectors of words: their lengths, their entries are grades, and a letter goes over from the row to the column. Assumes nothing.
 use mathlib.Core.Path.{_≡_, sym, ap, _∙_}
-use mathlib.Core.List.{List, [], _∷_, _++_}
+use mathlib.Core.List.{List, [], _∷_}
 use Prim.Native.Nat.{ℕ, _<_}
 use lib.ListN.{length, getD}
 use Rattle.paper.specs.Words.{Word, after}
 use Rattle.paper.specs.Chart.{kOf, nOf, letters, startFrom, endFrom, gradeFrom, prod, entry, startVec, endVec}
 use Rattle.paper.specs.Vectors.{joins, rowTerm, rowEntry, rowTimes, colTerm, colEntry, timesCol, combineTerm, combine, vectorOf, reverseOf, endGrade, gradeOf}
 use Rattle.lists.proofs.ByPlace.{length-tabulate, getD-tabulate}
-use Rattle.algebra.proofs.ListLaws.{after-keeps, after-snoc}
+use Rattle.numbering.proofs.Words.{with, after-with, after-keeps}
 use Rattle.algebra.proofs.Checked.{Sound}
 use Rattle.algebra.proofs.Joins.{joins-cong, joins-low, joins-swap, prod-joins-left, prod-joins-right}
 
@@ -54,9 +54,9 @@ module _ (c : List ℕ) where
   length-vector u = length-after (rowTimes c) length-row u (startVec c) length-start
 
   -- one letter more
-  pub vector-snoc : (u : List ℕ) (x : ℕ) → vectorOf c (u ++ (x ∷ [])) ≡ rowTimes c x (vectorOf c u)
+  pub vector-with : (u : List ℕ) (x : ℕ) → vectorOf c (with x u) ≡ rowTimes c x (vectorOf c u)
   unfolding vectorOf
-  vector-snoc u x = after-snoc (rowTimes c) (startVec c) u x
+  vector-with u x = after-with (rowTimes c) (startVec c) u x
 
   pub length-reverse : (u : List ℕ) → length (reverseOf c u) ≡ nOf c
   unfolding reverseOf
@@ -85,11 +85,11 @@ module _ (c : List ℕ) (ok : Sound c) where
 
   pub vector-grades : (u : List ℕ) → Word (letters c) u → Grades c (vectorOf c u)
   unfolding vectorOf
-  vector-grades u h = after-keeps (Grades c) (letters c) (rowTimes c) row-grades u h (startVec c) start-grades
+  vector-grades u h = after-keeps (rowTimes c) (Grades c) (letters c) (λ x h v. row-grades x v h) (startVec c) start-grades u h
 
   pub reverse-grades : (u : List ℕ) → Word (letters c) u → Grades c (reverseOf c u)
   unfolding reverseOf
-  reverse-grades u h = after-keeps (Grades c) (letters c) (timesCol c) col-grades u h (endVec c) end-grades
+  reverse-grades u h = after-keeps (timesCol c) (Grades c) (letters c) (λ x h w. col-grades x w h) (endVec c) end-grades u h
 
   pub combine-low : (v w : List ℕ) → Grades c v → Grades c w → combine c v w < kOf c
   unfolding combine combineTerm

@@ -11,7 +11,8 @@ use Rattle.paper.specs.Vectors.{rowTimes, timesCol, combine, vectorOf, endGrade
 use Rattle.paper.specs.Numbering.{itself, place}
 use Rattle.paper.specs.Constructions.{letterKey, reducedKey, firstRowAt, firstRow, rowAfterAt, rowAfter, rowGrade}
 use Rattle.lists.proofs.ByPlace.{length-tabulate, getD-tabulate, tabulate-cong, length-joined, joined-cong, joined-parts}
-use Rattle.algebra.proofs.ListLaws.{word-reverse, after-append, after-snoc, after-keeps, place-is}
+use Rattle.numbering.proofs.Words.{word-reverse, after-append, after-with, after-keeps}
+use Rattle.numbering.proofs.Place.{place-key}
 use Rattle.algebra.proofs.Checked.{Sound}
 use Rattle.algebra.proofs.Vectors.{Grades, length-row, row-grades, col-grades, start-grades, end-grades, vector-grades, reverse-grades, adjoint}
 
@@ -24,10 +25,10 @@ module _ (c : List ℕ) (ok : Sound c) where
   unfolding after
   carry [] h v f hv hf = refl
   carry (x ∷ w) h v f hv hf =
-      let back = after-keeps (Grades c) (letters c) (rowTimes c) (row-grades c ok) (reverse w) (word-reverse (letters c) w (h .1)) v hv in
+      let back = after-keeps (rowTimes c) (Grades c) (letters c) (λ x h v. row-grades c ok x v h) v hv (reverse w) (word-reverse (letters c) w (h .1)) in
       carry w (h .1) v (timesCol c x f) hv (col-grades c ok x f (h .0) hf)
       ∙ sym (adjoint c ok x (after (rowTimes c) v (reverse w)) f (h .0) back hf)
-      ∙ ap (λ (t : List ℕ). combine c t f) (sym (after-snoc (rowTimes c) v (reverse w) x) ∙ ap (after (rowTimes c) v) (sym (reverse-cons x w)))
+      ∙ ap (λ (t : List ℕ). combine c t f) (sym (after-with (rowTimes c) v (reverse w) x) ∙ ap (after (rowTimes c) v) (sym (reverse-cons x w)))
 
   -- a word's vector combined with a reverse vector is the grade of the word continued
   pub continued : (u w : List ℕ) → Word (letters c) u → Word (letters c) w → combine c (vectorOf c u) (reverseOf c w) ≡ gradeOf c (u ++ reverse w)
@@ -108,7 +109,7 @@ module _ (c : List ℕ) (ok : Sound c) (fs : List (List ℕ)) (rev : Reverses c 
       at i l =
           let h = rev .closed i x l hx in
           vectorRow-at c fs v (place itself fs (timesCol c x (getD fs i []))) h
-          ∙ ap (combine c v) (place-is fs (timesCol c x (getD fs i [])) h)
+          ∙ ap (combine c v) (place-key itself fs (timesCol c x (getD fs i [])) h)
           ∙ sym (adjoint c ok x v (getD fs i []) hx hv (reverse-at i l))
 
   row-walk : (u : List ℕ) → Word (letters c) u → (v : List ℕ) → Grades c v → after (rowAfter c fs) (vectorRow c fs v) u ≡ vectorRow c fs (after (rowTimes c) v u)

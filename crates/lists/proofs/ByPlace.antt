@@ -119,3 +119,18 @@ length-part w s xs h = simp (length-take, length-drop) (omega (arith, suc-mul s 
 pub getD-part {ℓ} : {X : Type ℓ} (w s : ℕ) (xs : List X) (d : X) (i : ℕ) → i < w → getD (part w s xs) i d ≡ getD xs (s * w + i) d
 unfolding part
 getD-part w s xs d i h = rw (getD-take, getD-drop)
+
+-- part i of lists of w elements one after the other, with more behind them
+pub part-joined {ℓ} : {X : Type ℓ} (d : X) (n w : ℕ) (f : ℕ → List X) (more : List X) → ((i : ℕ) → i < n → length (f i) ≡ w) →
+    (i : ℕ) → i < n → part w i (joined n f ++ more) ≡ f i
+part-joined d n w f more h i l =
+    ext-getD d (part w i (joined n f ++ more)) (f i) (size ∙ sym (h i l)) (λ j b. at j (rw size at b))
+  where
+    size : length (part w i (joined n f ++ more)) ≡ w
+    size = length-part w i (joined n f ++ more) (omega (arith, length-append (joined n f) more, length-joined n w f h, mul-le-mul-right w l))
+
+    at : (j : ℕ) → j < w → getD (part w i (joined n f ++ more)) j d ≡ getD (f i) j d
+    at j b =
+        getD-part w i (joined n f ++ more) d j b
+        ∙ List·getD-append (joined n f) more d (i * w + j) (rw (length-joined n w f h) (digits-lt l b))
+        ∙ getD-joined n w f d h i j l b

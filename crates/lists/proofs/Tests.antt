@@ -41,6 +41,11 @@ pub unless-passed {ℓ κ} : {X : Type ℓ} (P : X → Type κ) (b : Bool) (x y 
 unless-passed P true x y f p = (refl, p)
 unless-passed P false x y f p = absurd (f p)
 
+-- the same, where the refusal is told that the test failed
+pub unless-told {ℓ κ} : {X : Type ℓ} (P : X → Type κ) (b : Bool) (x y : X) → (b ≡ false → P x → ⊥) → P (unless b x y) → (b ≡ true) × P y
+unless-told P true x y f p = (refl, p)
+unless-told P false x y f p = absurd (f refl p)
+
 -- what a called test tells, where the code goes by its negation
 pub fell : {t a : Bool} → t ≡ a → not t ≡ true → a ≡ false
 fell {t} e h = sym e ∙ not-true t h

@@ -1,6 +1,7 @@
 -- The table of a construction's states, at the front of a buffer: it fits, a word leads in it to the word's key, and it grades every
 -- word as the construction does. Assumes nothing.
-use mathlib.Core.Path.{_≡_, ap, _∙_}
+use mathlib.Core.Path.{_≡_, refl, sym, ap, _∙_}
+use mathlib.Core.Logic.{_↔_}
 use mathlib.Core.Bool.{true}
 use mathlib.Core.List.{List, [], _++_}
 use Prim.Native.Nat.{ℕ, _≤_, _<_}
@@ -10,8 +11,8 @@ use Rattle.paper.specs.Words.{Word, after}
 use Rattle.paper.specs.Numbering.{itself, place}
 use Rattle.paper.specs.Tables.{nextAt, tableFits, nextBy, stateOf, tableGrade}
 use Rattle.paper.specs.Constructions.{Construction, statesOf, tableOf}
-use Rattle.numbering.specs.Numbered.{KeyDecides}
-use Rattle.numbering.proofs.Theorems.{states-some, states-closed, walk-key}
+use Rattle.numbering.specs.Numbered.{wordKey, KeyDecides}
+use Rattle.numbering.proofs.Theorems.{states-some, states-place, states-closed, walk-key}
 use Rattle.numbering.proofs.TableFits.{table-passes}
 use Rattle.numbering.proofs.TableBytes.{length-table, grade-back, next-back}
 
@@ -70,6 +71,20 @@ module _
         (stateOf rows m u < length S) × (b .key (getD S (stateOf rows m u) []) ≡ b .key (after (b .step) (b .first) u))
     unfolding statesOf stateOf nextBy
     construction-states = walk-key (b .key) (b .step) m room (b .first) (decides .steps) fits (nextBy rows m) next-is
+
+    -- so two words share a state exactly where their keys are equal
+    pub construction-shares : (u w : List ℕ) → Word m u → Word m w →
+        (stateOf rows m u ≡ stateOf rows m w) ↔ (wordKey (b .key) (b .step) (b .first) u ≡ wordKey (b .key) (b .step) (b .first) w)
+    construction-shares u w hu hw =
+        (λ e. sym (found u hu .1) ∙ ap (λ (s : ℕ). b .key (getD S s [])) e ∙ found w hw .1, λ e. sym (placed u hu refl) ∙ placed w hw e)
+      where
+        found : (u : List ℕ) → Word m u → (stateOf rows m u < length S) × (b .key (getD S (stateOf rows m u) []) ≡ wordKey (b .key) (b .step) (b .first) u)
+        found = construction-states
+
+        -- the state of a word is the place of any value of its key
+        placed : (t : List ℕ) → Word m t → wordKey (b .key) (b .step) (b .first) u ≡ wordKey (b .key) (b .step) (b .first) t →
+            place (b .key) S (after (b .step) (b .first) u) ≡ stateOf rows m t
+        placed t ht e = unfold statesOf in states-place (b .key) (b .step) m room (b .first) (stateOf rows m t) (found t ht .0) (after (b .step) (b .first) u) (found t ht .1 ∙ sym e)
 
     -- the table grades every word as the construction does
     pub construction-grades : (u : List ℕ) → Word m u → tableGrade rows m u ≡ b .grade (after (b .step) (b .first) u)

@@ -1,6 +1,6 @@
--- Words with one more letter, and where they lead. Assumes nothing.
+-- Words one after the other, turned round, or with one more letter, and where they lead. Assumes nothing.
 use mathlib.Core.Path.{_≡_, refl}
-use mathlib.Core.List.{List, [], _∷_, _++_, append-assoc, append-nil}
+use mathlib.Core.List.{List, [], _∷_, _++_, append-assoc, append-nil, reverse, reverse-cons}
 use Prim.Native.Nat.{ℕ, zero, suc, _<_}
 use native.Mathlib.Omega.{arith}
 use lib.ListN.{length, getD}
@@ -19,9 +19,16 @@ with-ind P none more u = go [] none u
     go v p (x ∷ u) = rw append-assoc at (go (with x v) (more v x p) u)
 
 module _ (m : ℕ) where
+  pub word-append : (u t : List ℕ) → Word m u → Word m t → Word m (u ++ t)
+  word-append [] t w d = d
+  word-append (x ∷ u) t w d = (w .0, word-append u t (w .1) d)
+
   pub word-with : (u : List ℕ) (x : ℕ) → Word m u → x < m → Word m (with x u)
-  word-with [] x w h = (h, tt)
-  word-with (y ∷ u) x w h = (w .0, word-with u x (w .1) h)
+  word-with u x w h = word-append u (x ∷ []) w (h, tt)
+
+  pub word-reverse : (u : List ℕ) → Word m u → Word m (reverse u)
+  word-reverse [] w = tt
+  word-reverse (x ∷ u) w = rw reverse-cons (word-with (reverse u) x (word-reverse u (w .1)) (w .0))
 
   pub word-front : (u : List ℕ) (x : ℕ) → Word m (with x u) → Word m u
   word-front [] x w = tt
@@ -42,11 +49,16 @@ module _ (m : ℕ) where
   word-of (x ∷ u) h = (h 0 (omega arith), word-of u (λ i l. h (suc i) (omega arith)))
 
 module _ {ℓ} {X : Type ℓ} (step : ℕ → X → X) where
+  -- a word goes on from where the one before it leads
+  pub after-append : (v : X) (u t : List ℕ) → after step v (u ++ t) ≡ after step (after step v u) t
+  unfolding after
+  after-append v [] t = refl
+  after-append v (x ∷ u) t = after-append (step x v) u t
+
   -- one more letter: one more step
   pub after-with : (v : X) (u : List ℕ) (x : ℕ) → after step v (with x u) ≡ step x (after step v u)
   unfolding after
-  after-with v [] x = refl
-  after-with v (y ∷ u) x = after-with (step y v) u x
+  after-with v u x = after-append v u (x ∷ [])
 
   -- what every letter below m keeps holds wherever a word leads
   pub after-keeps {κ} : (P : X → Type κ) (m : ℕ) → ((x : ℕ) → x < m → (v : X) → P v → P (step x v)) →

@@ -1,4 +1,6 @@
 // What the calls answer. `specs/Replies.antt` gives document 01's number and values for each case.
+ghost use mathlib.Core.Path.{_≡_};
+ghost use Rattle.paper.specs.Replies.{said};
 
 // Why a call is refused: document 01's refusals 1 to 14, in its order.
 pub enum Refusal {
@@ -101,4 +103,31 @@ pub enum Graded {
 pub enum Written {
     Bytes(usize),
     Refused(Refusal),
+}
+
+// Document 01's number of a refusal.
+pub fn number(why: Refusal) -> u8
+    ensures { λ r. ⌜ r ≡ said why .0 ⌝ }
+{
+    match why {
+        Refusal::Sizes => 1,
+        Refusal::Short => 2,
+        Refusal::Grade => 3,
+        Refusal::Law {
+            law: _,
+            a: _,
+            b: _,
+            c: _,
+        } => 4,
+        Refusal::Room => 5,
+        Refusal::Reverse => 6,
+        Refusal::States => 7,
+        Refusal::Letter { at: _ } => 8,
+        Refusal::Table => 9,
+        Refusal::Sheet => 10,
+        Refusal::Start => 11,
+        Refusal::Line { line: _ } => 12,
+        Refusal::Next { line: _, letter: _ } => 13,
+        Refusal::Text { line: _ } => 14,
+    }
 }

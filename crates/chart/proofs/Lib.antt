@@ -1,0 +1,7 @@
+pub mod Checked
+mod FirstBroken
+mod LawTests
+pub mod One
+pub mod Places
+pub mod Ranges
+mod Tries

@@ -1,0 +1,12 @@
+pub mod Placed
+pub mod Decides
+pub mod Answers
+pub mod Exact
+pub mod Faithful
+pub mod Forward
+pub mod Backward
+pub mod Sheets
+pub mod OneReply
+pub mod FirstWords
+pub mod OneTable
+pub mod Together

@@ -1,0 +1,13 @@
+-- Demand 3, the sheet check. Assumes nothing.
+use Rattle.promises.specs.Demands.{SheetSound, SheetComplete, SheetRefuses}
+use Rattle.algebra.proofs.SheetSound
+use Rattle.algebra.proofs.SheetComplete
+
+pub sheet-sound : SheetSound
+sheet-sound = Rattle.algebra.proofs.SheetSound.sheet-sound
+
+pub sheet-complete : SheetComplete
+sheet-complete = Rattle.algebra.proofs.SheetComplete.sheet-complete
+
+pub sheet-refuses : SheetRefuses
+sheet-refuses c rows count m u w differ sheet lines = Rattle.algebra.proofs.SheetSound.sheet-refuses c rows count m sheet lines u w differ

@@ -1,0 +1,71 @@
+// For measuring: the chart check and the row product as calls that a program in Rust can time. Nothing here is promised.
+ghost use mathlib.Core.Path.{_≡_};
+ghost use mathlib.Core.Bool.{true};
+ghost use Prim.Native.Nat.{_<_, _≤_};
+ghost use lib.ListN.{length};
+ghost use Rattle.chart.specs.Shaped.{Shaped};
+ghost use Rattle.vectors.specs.Products.{Grades};
+use paper::Checked;
+use paper::Shape;
+
+// The number of the refusal, or 0.
+#[no_mangle]
+pub extern "C" fn yard_check(chart: &[u8]) -> u8 {
+    match chart::check(chart) {
+        Checked::Fine(_) => 0,
+        Checked::Refused(why) => paper::number(why),
+    }
+}
+
+// Whether v has n grades below k at its front.
+fn are_grades(v: &[u8], k: usize, n: usize) -> bool
+    ensures { λ r. ⌜ (r ≡ true → Grades k n (now (v .entry))) ⌝ }
+{
+    if v.len() < n {
+        return false;
+    }
+    let mut p = 0;
+    while p < n {
+        if k <= v[p] as usize {
+            return false;
+        }
+        p += 1;
+    }
+    true
+}
+
+// The same row product so many times over.
+fn multiply(chart: &[u8], shape: Shape, x: usize, v: &[u8], out: &mut [u8], turns: usize)
+    requires { ⌜ Shaped (now chart) shape × (x < shape .letters) × Grades (shape .k) (shape .n) (now v) × (shape .n ≤ length (now out)) ⌝ }
+{
+    let mut t = 0;
+    while t < turns {
+        vectors::times::row_times(chart, shape, x, v, out);
+        t += 1;
+    }
+}
+
+// The vector v times letter x's matrix, into out, so many times over. Answers 0 where the chart, the letter or the vector is not one.
+#[no_mangle]
+pub extern "C" fn yard_row_times(
+    chart: &[u8],
+    x: usize,
+    v: &[u8],
+    out: &mut [u8],
+    turns: usize,
+) -> usize {
+    let Checked::Fine(shape) = chart::check(chart) else {
+        return 0;
+    };
+    if shape.letters <= x {
+        return 0;
+    }
+    if out.len() < shape.n {
+        return 0;
+    }
+    if !are_grades(v, shape.k, shape.n) {
+        return 0;
+    }
+    multiply(chart, shape, x, v, out, turns);
+    turns
+}
