@@ -16,10 +16,10 @@ loop-holds : tie.Need-loop-holds Inv-loop μ-loop
 loop-holds c = joining-start _ _ _ _ _ _ _ (c .before .before .pre .4)
 
 entry-requires : tie.Need-entry-requires Inv-loop μ-loop
-entry-requires c κs = let h = c .before .before .before .before .pre in (h .0, h .1, h .2, search needs)
+entry-requires c κs = (c .before .before .before .before .pre .0, search needs, search needs, search needs)
 
 prod-requires : tie.Need-prod-requires Inv-loop μ-loop
-prod-requires c κs = (c .before .before .before .before .before .pre .0, c .before .before .before .before .before .pre .3, c .entry .ensures .low)
+prod-requires c κs = (c .before .before .before .before .before .pre .0, search needs, search needs)
 
 slice-read-join : tie.Need-slice-read-join Inv-loop μ-loop
 slice-read-join c = search needs
