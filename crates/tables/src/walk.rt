@@ -1,10 +1,15 @@
 // Walking a table: one step, one grade, the grade of a word.
 ghost use mathlib.Core.Path.{_≡_};
-ghost use Prim.Native.Nat.{_+_, _*_, _<_, _≤_};
 ghost use lib.ListN.{length};
-ghost use Rattle.paper.specs.Tables.{gradeAt, nextAt, sizeFits, rowFits, tableFits, badLetter, tableGrade, tableReply, stepReply, gradeReply, wordReply};
+ghost use Rattle.paper.specs.Tables.{badLetter, tableGrade, tableReply, stepReply, gradeReply, wordReply};
 ghost use Rattle.paper.specs.Replies.{verdictSaid, steppedSaid, gradedSaid};
-ghost use Rattle.tables.specs.Walking.{RowIn, Walkable, foundOf};
+ghost use Rattle.tables.specs.Walking.{Walkable, foundOf};
+use crate::inner::grade_at;
+use crate::inner::next_at;
+use crate::inner::row_fits;
+use crate::inner::size_fits;
+use crate::inner::table_fits;
+use crate::inner::wide;
 use paper::Graded;
 use paper::Refusal;
 use paper::Stepped;
@@ -17,61 +22,6 @@ const GRADE_TOP: u8 = 16;
 pub(crate) enum Found {
     At(usize),
     Nothing,
-}
-
-fn wide(x: u8) -> usize
-    ensures { λ r. ⌜ (r ≡ x) × (r < 256) ⌝ }
-{
-    x as usize
-}
-
-fn size_fits(rows: &[u8], count: usize, m: usize) -> bool
-    ensures { λ r. ⌜ r ≡ sizeFits (now (rows .entry)) count m ⌝ }
-{
-    if count < 1 {
-        return false;
-    }
-    if 4096 < count {
-        return false;
-    }
-    if m < 1 {
-        return false;
-    }
-    if 16 < m {
-        return false;
-    }
-    count * (1 + 2 * m) <= rows.len()
-}
-
-fn grade_at(rows: &[u8], m: usize, s: usize) -> u8
-    requires { ⌜ RowIn (now rows) m s ⌝ }
-    ensures { λ r. ⌜ r ≡ gradeAt (now (rows .entry)) m s ⌝ }
-{
-    rows[s * (1 + 2 * m)]
-}
-
-fn next_at(rows: &[u8], m: usize, s: usize, x: usize) -> usize
-    requires { ⌜ RowIn (now rows) m s × (x < m) ⌝ }
-    ensures { λ r. ⌜ (r ≡ nextAt (now (rows .entry)) m s x) × (r < 65536) ⌝ }
-{
-    wide(rows[s * (1 + 2 * m) + (1 + 2 * x)]) * 256 + wide(rows[s * (1 + 2 * m) + (2 + 2 * x)])
-}
-
-fn row_fits(rows: &[u8], count: usize, m: usize, top: u8, s: usize) -> bool
-    requires { ⌜ RowIn (now rows) m s ⌝ }
-    ensures { λ r. ⌜ r ≡ rowFits (now (rows .entry)) count m top s ⌝ }
-{
-    if top <= grade_at(rows, m, s) {
-        return false;
-    }
-    let mut x = 0;
-    while x < m {
-        if count <= next_at(rows, m, s, x) {
-            return false;
-        }
-        x += 1;
-    }
-    true
 }
 
 // One step from a state by a letter.
@@ -107,22 +57,6 @@ pub fn grade(rows: &[u8], count: usize, m: usize, state: usize) -> Graded
         return Graded::Refused(Refusal::Table);
     }
     Graded::Grade(grade_at(rows, m, state))
-}
-
-fn table_fits(rows: &[u8], count: usize, m: usize, top: u8) -> bool
-    ensures { λ r. ⌜ r ≡ tableFits (now (rows .entry)) count m top ⌝ }
-{
-    if !size_fits(rows, count, m) {
-        return false;
-    }
-    let mut s = 0;
-    while s < count {
-        if !row_fits(rows, count, m, top, s) {
-            return false;
-        }
-        s += 1;
-    }
-    true
 }
 
 // Whether a table, by itself, is one that can be walked from every state.

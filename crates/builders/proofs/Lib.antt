@@ -1,0 +1,12 @@
+pub mod MarkLaws
+pub mod Memory
+pub mod KindLaws
+pub mod Keys
+pub mod Found
+pub mod Settling
+pub mod Growing
+pub mod Walking
+pub mod Filled
+pub mod Whole
+pub mod SameSteps
+pub mod Backward

@@ -1,0 +1,29 @@
+use native.Mathlib.Omega.{arith}
+use mathlib.Core.Path.{sym}
+use Rattle.lists.proofs.Tests.{fell, held, both-not-right}
+use Rattle.builders.proofs.Whole.{roomy, first-decides}
+use borrow.Author.Needs.{needs}
+use Rattle.builders.proofs.calls.rooms_fit.Statement.{statement}
+use Rattle.builders.proofs.calls.rooms_fit.Tie as tie
+use Rattle.builders.proofs.calls.rooms_fit.Reads as reads
+use Rattle.builders.proofs.calls.rooms_fit.Lts as lts
+use Rattle.builders.proofs.calls.room_fits.Reads as room-fits-reads
+
+-- src/calls.rt:86:9
+room-fits-requires : tie.Need-room-fits-requires
+room-fits-requires c κs = search needs
+
+-- src/calls.rt:87:9
+returns : tie.Need-returns
+returns c = sym (both-not-right _ _ (fell (c .before .room-fits .ensures) (c .if1 .taken)))
+
+-- src/calls.rt:89:5
+room-fits-requires-2 : tie.Need-room-fits-requires-2
+room-fits-requires-2 c κs = (omega arith, c .before .before .pre .0, roomy _ _ _ _ _ _ (held (c .before .room-fits .ensures) (c .if1 .left)) .high)
+
+-- src/calls.rt:74:1
+returns-2 : tie.Need-returns-2
+returns-2 c = first-decides _ _ (c .room-fits2 .ensures) (held (c .before .before .room-fits .ensures) (c .before .if1 .left))
+
+pub rooms-fit-spec : {M : Type 1} → statement M
+rooms-fit-spec = tie.close (tie.spec room-fits-requires returns room-fits-requires-2 returns-2)

@@ -1,0 +1,43 @@
+use Rattle.builders.proofs.Keys.{grade-differs, letters-decide}
+use borrow.Author.Needs.{needs}
+use Rattle.builders.proofs.kinds.same_key.Statement.{statement}
+use Rattle.builders.proofs.kinds.same_key.Tie as tie
+use Rattle.builders.proofs.kinds.same_key.Reads as reads
+use Rattle.builders.proofs.kinds.same_key.Lts as lts
+use Rattle.builders.proofs.kinds.same_letters.Reads as same-letters-reads
+use Rattle.vectors.proofs.times.end_grade.Reads as end-grade-reads
+
+-- src/kinds.rt:168:16
+mul-last : tie.Need-mul-last
+mul-last c = search needs
+
+-- src/kinds.rt:169:8
+end-grade-requires : tie.Need-end-grade-requires
+end-grade-requires c κs = search needs
+
+-- src/kinds.rt:169:38
+shared-slice-read-if1 : tie.Need-shared-slice-read-if1
+shared-slice-read-if1 c = search needs
+
+-- src/kinds.rt:170:9
+returns : tie.Need-returns
+returns c = grade-differs (c .before .before .before .before .before .before .before .pre .0) _ _ (c .before .before .before .before .before .before .before .pre .2) (c .before .before .end-grade .ensures .is) (c .if1 .taken)
+
+-- src/kinds.rt:172:5
+same-letters-requires : tie.Need-same-letters-requires
+same-letters-requires c κs = search needs
+
+-- src/kinds.rt:164:1
+returns-2 : tie.Need-returns-2
+returns-2 c = letters-decide (c .before .before .before .before .before .before .before .before .pre .0) _ _ (c .before .before .before .before .before .before .before .before .pre .2) (c .before .before .before .end-grade .ensures .is) (c .before .if1 .left) (c .same-letters .ensures)
+
+pub same-key-spec : {M : Type 1} → statement M
+same-key-spec =
+    tie.close
+    (tie.spec
+    mul-last
+    end-grade-requires
+    shared-slice-read-if1
+    returns
+    same-letters-requires
+    returns-2)

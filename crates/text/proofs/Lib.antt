@@ -1,0 +1,15 @@
+pub mod Dues
+pub mod FrameBack
+pub mod FrameRead
+pub mod FrameWritten
+pub mod Front
+pub mod Hex
+pub mod ListLaws
+pub mod Loop
+pub mod One
+pub mod Printed
+pub mod TableText
+pub mod TextBack
+pub mod TextRead
+pub mod TextSize
+pub mod Whole
