@@ -1,13 +1,20 @@
-//! Times the proved chart check and row product beside the same work in plain Rust, on the same charts, in one run. Prints nanoseconds a
-//! call (the median of some runs) and the ratio.
+//! Times the proved chart check, row product and builders beside the same work in plain Rust, on the same charts, in one run. Prints
+//! nanoseconds a call (the median of some runs) and the ratio.
 
-use baseline::cases::{grades, Drawing, Rng};
-use baseline::{check, row_times, Chart, Grades};
+use baseline::cases::{grades, tight, Drawing, Rng};
+use baseline::{brzozowski, check, nerode, reduced, row_times, Chart, Grades};
 use std::hint::black_box;
 use std::time::Instant;
 
 extern "C" {
     fn yard_check(chart: *const u8, len: usize) -> u8;
+    fn yard_nerode(chart: *const u8, len: usize, room: usize, table: *mut u8, table_len: usize, vectors: *mut u8, vectors_len: usize) -> usize;
+    fn yard_reduced(chart: *const u8, len: usize, room: usize, table: *mut u8, table_len: usize, vectors: *mut u8, vectors_len: usize) -> usize;
+    #[rustfmt::skip]
+    fn yard_brzozowski(
+        chart: *const u8, len: usize, room: usize, reverse_room: usize, table: *mut u8, table_len: usize, reverse: *mut u8, reverse_len: usize,
+        vectors: *mut u8, vectors_len: usize, rows: *mut u8, rows_len: usize,
+    ) -> usize;
     fn yard_row_times(chart: *const u8, len: usize, x: usize, v: *const u8, v_len: usize, out: *mut u8, out_len: usize, turns: usize) -> usize;
 }
 
@@ -35,7 +42,7 @@ fn median(turns: usize, mut run: impl FnMut()) -> f64 {
 }
 
 fn report(what: &str, proved: f64, plain: f64) -> f64 {
-    println!("{what:<34} proved {proved:>10.0} ns   plain {plain:>10.0} ns   ratio {:.2}", proved / plain);
+    println!("{what:<46} proved {proved:>10.0} ns   plain {plain:>10.0} ns   ratio {:.2}", proved / plain);
     proved / plain
 }
 
@@ -67,6 +74,94 @@ fn rows_ratio(name: &str, bytes: &[u8]) -> f64 {
     report(&format!("row times matrix {name}"), (proved - checked) / turns as f64, plain)
 }
 
+const ROOM: usize = 4096;
+const REVERSE: usize = 128;
+
+/// What the builders are lent, for every chart.
+struct Lent {
+    table: Vec<u8>,
+    vectors: Vec<u8>,
+    reverse_table: Vec<u8>,
+    reverse_vectors: Vec<u8>,
+    rows: Vec<u8>,
+}
+
+impl Lent {
+    fn new() -> Self {
+        Lent {
+            table: vec![0; ROOM * 33],
+            vectors: vec![0; (ROOM + 1) * 24],
+            reverse_table: vec![0; REVERSE * 33],
+            reverse_vectors: vec![0; (REVERSE + 1) * 24],
+            rows: vec![0; (ROOM + 1) * REVERSE],
+        }
+    }
+}
+
+#[derive(Clone, Copy)]
+enum Build {
+    Nerode,
+    Reduced,
+    Brz,
+}
+
+/// The state count, or 0 for a refusal.
+fn proved_build(build: Build, chart: &[u8], lent: &mut Lent) -> usize {
+    let (c, len) = (chart.as_ptr(), chart.len());
+    let (t, v) = (&mut lent.table, &mut lent.vectors);
+    // any bytes and numbers may be passed
+    unsafe {
+        match build {
+            Build::Nerode => yard_nerode(c, len, ROOM, t.as_mut_ptr(), t.len(), v.as_mut_ptr(), v.len()),
+            Build::Reduced => yard_reduced(c, len, ROOM, t.as_mut_ptr(), t.len(), v.as_mut_ptr(), v.len()),
+            Build::Brz => {
+                let (rt, rv, rows) = (&mut lent.reverse_table, &mut lent.reverse_vectors, &mut lent.rows);
+                #[rustfmt::skip]
+                let count = yard_brzozowski(
+                    c, len, ROOM, REVERSE, t.as_mut_ptr(), t.len(), rt.as_mut_ptr(), rt.len(), rv.as_mut_ptr(), rv.len(), rows.as_mut_ptr(), rows.len(),
+                );
+                count
+            }
+        }
+    }
+}
+
+fn plain_build(build: Build, chart: &[u8], lent: &mut Lent) -> usize {
+    let count = match build {
+        Build::Nerode => nerode(chart, ROOM, &mut lent.table, &mut lent.vectors),
+        Build::Reduced => reduced(chart, ROOM, &mut lent.table, &mut lent.vectors),
+        Build::Brz => {
+            let answer = brzozowski(chart, ROOM, REVERSE, &mut lent.table, &mut lent.reverse_table, &mut lent.reverse_vectors, &mut lent.rows);
+            answer.map(|counts| counts.0)
+        }
+    };
+    count.unwrap_or(0)
+}
+
+fn build_ratio(name: &str, build: Build, chart: &[u8]) -> f64 {
+    let (mut ours, mut theirs) = (Lent::new(), Lent::new());
+    let count = proved_build(build, chart, &mut ours);
+    assert_eq!(count, plain_build(build, chart, &mut theirs));
+    assert!(ours.table == theirs.table && ours.vectors == theirs.vectors && ours.rows == theirs.rows);
+    let proved = median(1, || assert_eq!(proved_build(build, black_box(chart), &mut ours), count));
+    let plain = median(1, || assert_eq!(plain_build(build, black_box(chart), &mut theirs), count));
+    report(&format!("{name}, {count} states"), proved, plain)
+}
+
+/// Charts of few and of many states; some outnumber the room of 4,096, and are then refused after that many.
+fn build_charts(rng: &mut Rng) -> Vec<(String, Vec<u8>)> {
+    let mut charts = Vec::new();
+    for (name, tables) in [("chain 2", grades::chain(2)), ("chain 5", grades::chain(5)), ("relations", grades::relations())] {
+        for (n, m) in [(4, 2), (8, 4), (12, 8), (24, 16)] {
+            charts.push((format!("{name}, n {n}, m {m}"), Drawing::with_sizes(rng, tables.clone(), n, m).bytes()));
+        }
+        for back in [6, 9, 11] {
+            charts.push((format!("{name}, remembering {back}"), tight::remembering(tables.clone(), back, true).bytes()));
+        }
+    }
+    charts
+}
+
 fn main() {
     let mut rng = Rng::new(1);
     let sizes = [(4, 2), (8, 4), (24, 16)];
@@ -79,6 +174,11 @@ fn main() {
             checks.push(check_ratio(&label, &bytes));
             rows.push(rows_ratio(&label, &bytes));
         }
+    }
+    let charts = build_charts(&mut rng);
+    for (what, build) in [("nerode", Build::Nerode), ("reduced", Build::Reduced), ("brz", Build::Brz)] {
+        let ratios: Vec<f64> = charts.iter().map(|(name, chart)| build_ratio(&format!("{what} {name}"), build, chart)).collect();
+        println!("geometric mean: {what} {:.2}", geometric_mean(&ratios));
     }
     println!("geometric means: check {:.2}, row times matrix {:.2}", geometric_mean(&checks), geometric_mean(&rows));
 }

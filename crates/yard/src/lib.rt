@@ -1,10 +1,12 @@
-// For measuring: the chart check and the row product as calls that a program in Rust can time. Nothing here is promised.
+// For measuring: the chart check, the row product and the builders as calls that a program in Rust can time. Nothing here is promised.
 ghost use mathlib.Core.Path.{_≡_};
 ghost use mathlib.Core.Bool.{true};
 ghost use Prim.Native.Nat.{_<_, _≤_};
 ghost use lib.ListN.{length};
 ghost use Rattle.chart.specs.Shaped.{Shaped};
 ghost use Rattle.vectors.specs.Products.{Grades};
+use paper::Built;
+use paper::BuiltBoth;
 use paper::Checked;
 use paper::Shape;
 
@@ -68,4 +70,56 @@ pub extern "C" fn yard_row_times(
     }
     multiply(chart, shape, x, v, out, turns);
     turns
+}
+
+// The state count, or 0 for a refusal.
+fn states(built: Built) -> usize {
+    match built {
+        Built::States(count) => count,
+        Built::Refused(_) => 0,
+    }
+}
+
+#[no_mangle]
+pub extern "C" fn yard_nerode(
+    chart: &[u8],
+    room: usize,
+    table: &mut [u8],
+    vectors: &mut [u8],
+) -> usize {
+    states(builders::nerode(chart, room, table, vectors))
+}
+
+#[no_mangle]
+pub extern "C" fn yard_reduced(
+    chart: &[u8],
+    room: usize,
+    table: &mut [u8],
+    vectors: &mut [u8],
+) -> usize {
+    states(builders::reduced(chart, room, table, vectors))
+}
+
+#[no_mangle]
+pub extern "C" fn yard_brzozowski(
+    chart: &[u8],
+    room: usize,
+    reverse_room: usize,
+    table: &mut [u8],
+    reverse_table: &mut [u8],
+    reverse_vectors: &mut [u8],
+    rows: &mut [u8],
+) -> usize {
+    match builders::brzozowski(
+        chart,
+        room,
+        reverse_room,
+        table,
+        reverse_table,
+        reverse_vectors,
+        rows,
+    ) {
+        BuiltBoth::States(count, _) => count,
+        BuiltBoth::Refused(_) => 0,
+    }
 }
