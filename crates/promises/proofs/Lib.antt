@@ -10,3 +10,4 @@ pub mod OneReply
 pub mod FirstWords
 pub mod OneTable
 pub mod Together
+pub mod Left

@@ -1,3 +1,4 @@
 pub mod Faithful
 pub mod Demands
 pub mod OneReply
+pub mod Left

@@ -6,11 +6,11 @@ use Prim.Native.Nat.{ℕ, suc, _+_, _-_, _≤_, _<_}
 use native.Mathlib.Nat.{le-refl}
 use native.Mathlib.Numerals.{add-one}
 use native.Mathlib.Omega.{arith}
-use lib.ListN.{length, getD, take, drop, set, length-append, length-drop, drop-of-length-le, length-replicate, getD-replicate}
-use lib.Seq.{take-suc, drop-cons, drop-append-add, drop-drop, set-at, drop-length, take-all, take-length, take-at, drop-at, length-take-le, append-snoc}
+use lib.ListN.{length, getD, take, drop, set, length-append, length-drop, drop-of-length-le}
+use lib.Seq.{take-suc, drop-cons, drop-append-add, drop-drop, set-at, take-all, take-length, take-at, drop-at, length-take-le, append-snoc}
 use borrow.Rule.Slice.PartMut.{midOf, putMid}
 use borrow.Author.Tests.{not-false}
-use Rattle.paper.specs.Lists.{pick, inFront, zeros}
+use Rattle.paper.specs.Lists.{pick, inFront}
 use Rattle.lists.proofs.Tests.{pick-true}
 
 -- the first i elements of a list in front of a buffer
@@ -36,10 +36,6 @@ begun-all new old i q = rw (q, take-length)
 
 -- ---- one list after the other
 
-pub length-front : (new old : List ℕ) → length new ≤ length old → length (inFront new old) ≡ length old
-unfolding inFront
-length-front new old h = simp (length-append, length-drop) (omega arith)
-
 -- what is written in front of the part that is lent from behind a first list on stands behind that list
 pub front-more : (done new old buf part : List ℕ) (at : ℕ) → at ≡ length done → buf ≡ inFront done old → part ≡ inFront new (midOf at (length buf - at) buf) → putMid at (length buf - at) buf part ≡ inFront (done ++ new) old
 unfolding inFront
@@ -62,12 +58,3 @@ front-front new first old h =
 -- a buffer that a call wrote where its test held
 pub picked : (r : Bool) (buf new old : List ℕ) → buf ≡ pick r new old → not r ≡ false → buf ≡ new
 picked r buf new old e h = e ∙ pick-true r new old (not-false r h)
-
--- ---- zeros
-
-pub zero-more : (old buf : List ℕ) (i : ℕ) → i < length old → buf ≡ begun (zeros old) old i → set buf i 0 ≡ begun (zeros old) old (i + 1)
-zero-more old buf i h e = begun-more (zeros old) old buf i 0 (rw length-replicate h) h e (sym (getD-replicate (length old) i 0 0 h))
-
-pub zero-done : (old buf : List ℕ) (i : ℕ) → i ≡ length old → buf ≡ begun (zeros old) old i → buf ≡ zeros old
-unfolding begun
-zero-done old buf i q e = e ∙ simp (q, drop-length, append-nil) (take-all (length old) (zeros old) (rw length-replicate (le-refl _)))

@@ -20,7 +20,8 @@ use Rattle.text.specs.declared.read.Rule.{Rule}
 use Rattle.text.specs.declared.read.Cursor.{Cursor}
 use Rattle.text.specs.Lines.{FrameIn}
 use Rattle.text.specs.Reading.{Ruled, Stepping, behindLine, RestIn, restLines, ChartRead}
-use Rattle.text.proofs.Front.{front-more, length-front}
+use Rattle.lists.proofs.Lent.{length-inFront}
+use Rattle.text.proofs.Front.{front-more}
 use Rattle.text.proofs.FrameRead.{bad-kind, frame-inside, length-payload}
 use Rattle.text.proofs.Dues.{restDues, rest-line, rest-next, rest-end, lines-over, lines-some, bytesDue, bytes-few}
 
@@ -38,7 +39,7 @@ pub record Reading (text : List ℕ) (total : Lines) (old buf : List ℕ) (ds : 
 module _ {text : List ℕ} {total : Lines} {old buf : List ℕ} {line pos at : ℕ} where
   -- the buffer keeps its length
   read-kept : {ds : List (ℕ × ℕ)} → Reading text total old buf ds line pos at → chartMost ≤ length old → length buf ≡ length old
-  read-kept r h = ap length (r .front) ∙ length-front (r .done) old (omega (arith, r .fits, r .placed))
+  read-kept r h = ap length (r .front) ∙ length-inFront (r .done) old (omega (arith, r .fits, r .placed))
 
   -- no line is due, and the text ends
   pub read-all : Reading text total old buf [] line pos at → length text ≤ pos → ChartRead total old buf at

@@ -16,7 +16,8 @@ use Rattle.lists.proofs.ByPlace.{length-joined, length-part}
 use Rattle.tables.proofs.Bound.{row-end}
 use Rattle.text.specs.Lines.{LineIn}
 use Rattle.text.specs.Printing.{RowsIn}
-use Rattle.text.proofs.Front.{front-more, length-front}
+use Rattle.lists.proofs.Lent.{length-inFront}
+use Rattle.text.proofs.Front.{front-more}
 use Rattle.text.proofs.FrameWritten.{length-frame}
 
 -- ---- a table's rows
@@ -54,7 +55,7 @@ module _ {rows : List ℕ} {count m : ℕ} {old buf : List ℕ} {s from at : ℕ
   pub rows-kept : length buf ≡ length old
   rows-kept =
       ap length (r .front)
-      ∙ length-front (joined s (rowLine rows m)) old (omega (arith, at-length, r .at-is, mul-le-mul-right (lineLength (rowSize m)) (r .low), r .ready .room))
+      ∙ length-inFront (joined s (rowLine rows m)) old (omega (arith, at-length, r .at-is, mul-le-mul-right (lineLength (rowSize m)) (r .low), r .ready .room))
 
   pub rows-done : s ≡ count → buf ≡ inFront (joined count (rowLine rows m)) old
   rows-done q = rw q at (r .front)

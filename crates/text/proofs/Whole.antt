@@ -16,14 +16,15 @@ use Rattle.paper.specs.Replies.{said, checkedSaid, writtenSaid}
 use Rattle.paper.specs.Chart.{headSize}
 use Rattle.paper.specs.Check.{sizesFit, headFits, checkReply}
 use Rattle.paper.specs.Frames.{payload, frameFits}
-use Rattle.paper.specs.Texts.{Filled, Lines, badLine, badHead, chart, widthOf, dues, linesAfter, textMost, chartMost, linesOfText, chartRead, linesRead, readChart}
+use Rattle.paper.specs.Texts.{Filled, Lines, badLine, badHead, widthOf, dues, linesAfter, textMost, chartMost, linesOfText, chartRead, linesRead, readChart}
 use Rattle.chart.proofs.Ranges.{sizes-are}
 use Rattle.chart.proofs.Checked.{shaped, fits-fine, fits-refused}
 use Rattle.text.specs.declared.read.Counts.{Counts}
 use Rattle.text.specs.declared.read.Rule.{Rule}
 use Rattle.text.specs.declared.read.Frames.{Frames}
 use Rattle.text.specs.Reading.{Ruled, RestIn, restLines, ChartRead, LinesSay, zeroedBy}
-use Rattle.text.proofs.Front.{length-front, front-front}
+use Rattle.lists.proofs.Lent.{length-inFront}
+use Rattle.text.proofs.Front.{front-front}
 use Rattle.text.proofs.FrameRead.{frame-inside, length-payload}
 
 -- ---- the head
@@ -82,7 +83,7 @@ module _ {text old buf : List ℕ} (r : HeadRead text old buf) where
       pub rest-in : chartMost ≤ length old → RestIn text (record { k = k; n = n; m = m }) buf
       rest-in room =
           let s = sizes-are k e n m f in
-          let l : length buf ≡ length old = ap length (r .front) ∙ length-front (payload headSize text 0) old (omega (arith, length-payload headSize text 0)) in
+          let l : length buf ≡ length old = ap length (r .front) ∙ length-inFront (payload headSize text 0) old (omega (arith, length-payload headSize text 0)) in
           record {
             short = r .short;
             first = frame-inside 0x01 headSize text 0 (r .fits);

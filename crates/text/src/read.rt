@@ -3,13 +3,13 @@ use crate::digits::byte_at;
 use crate::frames::read_frame;
 use chart::check;
 use chart::sizes::sizes_fit;
+use lists::zero;
 use paper::Checked;
 use paper::Refusal;
 use paper::Written;
 ghost use mathlib.Core.Path.{_≡_};
 ghost use Prim.Native.Nat.{_≤_};
 ghost use lib.ListN.{length};
-ghost use Rattle.paper.specs.Lists.{zeros};
 ghost use Rattle.paper.specs.Replies.{writtenSaid};
 ghost use Rattle.paper.specs.Texts.{Filled, chartMost, linesOfText, linesRead, readChart};
 ghost use Rattle.text.specs.Reading.{Few, Ruled, Stepping, behindLine, RestIn, restLines, LinesSay, zeroedBy};
@@ -178,17 +178,6 @@ fn read_whole(text: &[u8], chart: &mut [u8]) -> Written
             Checked::Fine(shape) => Written::Bytes(shape.size),
             Checked::Refused(why) => Written::Refused(why),
         },
-    }
-}
-
-// Zeros in the whole buffer.
-fn zero(out: &mut [u8])
-    ensures { λ _. ⌜ now (out .exit) ≡ zeros (now (out .entry)) ⌝ }
-{
-    let mut i = 0;
-    while i < out.len() {
-        out[i] = 0;
-        i += 1;
     }
 }
 

@@ -1,0 +1,34 @@
+-- What the builders leave, by their contracts, grades every word as the chart does. Assumes nothing.
+use mathlib.Core.Path.{_≡_, sym, ap, subst}
+use mathlib.Core.List.{List}
+use Prim.Native.Nat.{ℕ, _≤_}
+use Rattle.paper.specs.Builders.{Forward, Backward, nerode, reduced, brzozowski}
+use Rattle.paper.specs.Constructions.{Construction, nerodeBy, reducedBy}
+use Rattle.promises.specs.Faithful.{answered, SameVector, SameAfterLetters}
+use Rattle.promises.specs.Demands.{Builder, ForwardFaithful}
+use Rattle.promises.specs.Left.{GradesAll, ForwardLeaves, BrzozowskiLeaves}
+use Rattle.promises.proofs.Forward.{nerode-faithful, reduced-faithful}
+use Rattle.promises.proofs.Backward.{brzozowski-faithful, brzozowski-smallest}
+
+-- a faithful builder's contract leaves a faithful table
+leaves : (build : Builder) (by : List ℕ → Construction) (alike : List ℕ → List ℕ → List ℕ → Type 0) → ForwardFaithful build by alike → ForwardLeaves build
+leaves build by alike faithful c room table vectors left kept count e =
+    subst (GradesAll c) (sym (ap (λ (o : Forward). o .table) e))
+    (faithful c room table vectors (sym (ap (λ (o : Forward). o .reply .0) e)) .grades)
+
+pub nerode-leaves : ForwardLeaves nerode
+nerode-leaves = leaves nerode nerodeBy SameVector nerode-faithful
+
+pub reduced-leaves : ForwardLeaves reduced
+reduced-leaves = leaves reduced reducedBy SameAfterLetters reduced-faithful
+
+pub brzozowski-leaves : BrzozowskiLeaves
+brzozowski-leaves c room reverseRoom lent left count reverse e =
+    let done = sym (ap (λ (o : Backward). o .reply .0) e) in (
+      subst (GradesAll c) (sym (ap (λ (o : Backward). o .left .table) e)) (brzozowski-faithful c room reverseRoom lent done .grades),
+      λ rows fewer top fits graded.
+          subst
+          (λ (n : ℕ). n ≤ fewer)
+          (sym (ap (λ (o : Backward). answered (o .reply) 0) e))
+          (brzozowski-smallest c room reverseRoom lent done rows fewer top fits graded),
+    )
