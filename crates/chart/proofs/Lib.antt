@@ -1,7 +1,6 @@
 pub mod Checked
 mod FirstBroken
 mod LawTests
-pub mod One
 pub mod Places
 pub mod Ranges
 mod Tries

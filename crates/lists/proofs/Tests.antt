@@ -28,14 +28,6 @@ pub pick-case {ℓ κ} : {X : Type ℓ} (P : X → Type κ) (b : Bool) (x y : X)
 pick-case P true x y f g = f refl
 pick-case P false x y f g = g refl
 
-pub unless-true {ℓ} : {X : Type ℓ} (b : Bool) (x y : X) → b ≡ true → unless b x y ≡ y
-unless-true true x y e = refl
-unless-true false x y e = absurd (false≢true e)
-
-pub unless-false {ℓ} : {X : Type ℓ} (b : Bool) (x y : X) → b ≡ false → unless b x y ≡ x
-unless-false true x y e = absurd (false≢true (sym e))
-unless-false false x y e = refl
-
 -- an answer of which something holds that does not hold of the refusal: the test passed, and it holds of the rest
 pub unless-passed {ℓ κ} : {X : Type ℓ} (P : X → Type κ) (b : Bool) (x y : X) → (P x → ⊥) → P (unless b x y) → (b ≡ true) × P y
 unless-passed P true x y f p = (refl, p)

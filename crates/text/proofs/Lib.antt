@@ -6,7 +6,6 @@ pub mod Front
 pub mod Hex
 pub mod ListLaws
 pub mod Loop
-pub mod One
 pub mod Printed
 pub mod TableText
 pub mod TextBack
