@@ -35,7 +35,7 @@ pub fn grade_at(rows: &[u8], m: usize, s: usize) -> u8
     rows[s * (1 + 2 * m)]
 }
 
-pub(crate) fn next_at(rows: &[u8], m: usize, s: usize, x: usize) -> usize
+pub fn next_at(rows: &[u8], m: usize, s: usize, x: usize) -> usize
     requires { ⌜ RowIn (now rows) m s × (x < m) ⌝ }
     ensures { λ r. ⌜ (r ≡ nextAt (now (rows .entry)) m s x) × (r < 65536) ⌝ }
 {

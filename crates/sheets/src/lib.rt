@@ -1,0 +1,72 @@
+// The sheet check: whether a table grades as its chart does, by a sheet of pairs of a state and a vector.
+pub mod lines;
+pub mod pairs;
+
+use crate::lines::sheet_fits;
+use crate::lines::start_vector;
+use crate::pairs::bad_line;
+use crate::pairs::bad_next;
+use crate::pairs::grade_holds;
+use crate::pairs::on_sheet;
+use card::inner::table_fits_chart;
+use chart::check;
+use paper::Checked;
+use paper::Refusal;
+use paper::Shape;
+use paper::Verdict;
+ghost use mathlib.Core.Path.{_≡_};
+ghost use Rattle.paper.specs.Replies.{verdictSaid};
+ghost use Rattle.paper.specs.Sheets.{sheetReply};
+ghost use Rattle.sheets.specs.Readable.{Readable, linesReply};
+
+// Inner: the lines of a sheet that fits, one after the other.
+pub(crate) fn check_lines(
+    chart: &[u8],
+    shape: Shape,
+    rows: &[u8],
+    sheet: &[u8],
+    lines: usize,
+) -> Verdict
+    requires { ⌜ Readable (now chart) shape (now rows) (now sheet) lines ⌝ }
+    ensures { λ r. ⌜ verdictSaid r ≡ linesReply (now (chart .entry)) (now (rows .entry)) (now (sheet .entry)) lines ⌝ }
+{
+    let i = bad_line(chart, shape, rows, sheet, lines);
+    if lines <= i {
+        return Verdict::Accepted;
+    }
+    if !grade_holds(chart, shape, rows, sheet, lines, i) {
+        return Verdict::Refused(Refusal::Line { line: i });
+    }
+    Verdict::Refused(Refusal::Next {
+        line: i,
+        letter: bad_next(chart, shape, rows, sheet, lines, i),
+    })
+}
+
+// Checks a sheet: whether the table's letters and grades are the chart's, the sheet fits, the start pair is on it, and every line holds.
+pub fn check_sheet(
+    chart: &[u8],
+    rows: &[u8],
+    count: usize,
+    m: usize,
+    sheet: &[u8],
+    lines: usize,
+) -> Verdict
+    ensures { λ r. ⌜ verdictSaid r ≡ sheetReply (now (chart .entry)) (now (rows .entry)) count m (now (sheet .entry)) lines ⌝ }
+{
+    match check(chart) {
+        Checked::Refused(why) => Verdict::Refused(why),
+        Checked::Fine(shape) => {
+            if !table_fits_chart(chart, shape, rows, count, m) {
+                return Verdict::Refused(Refusal::Table);
+            }
+            if !sheet_fits(chart, shape, count, sheet, lines) {
+                return Verdict::Refused(Refusal::Sheet);
+            }
+            if !on_sheet(chart, shape, sheet, lines, 0, start_vector(chart, shape)) {
+                return Verdict::Refused(Refusal::Start);
+            }
+            check_lines(chart, shape, rows, sheet, lines)
+        }
+    }
+}
