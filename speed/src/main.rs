@@ -78,6 +78,7 @@ const ROOM: usize = 4096;
 const REVERSE: usize = 128;
 
 /// What the builders are lent, for every chart.
+#[derive(PartialEq)]
 struct Lent {
     table: Vec<u8>,
     vectors: Vec<u8>,
@@ -142,7 +143,7 @@ fn build_ratio(name: &str, build: Build, chart: &[u8]) -> f64 {
     let (mut ours, mut theirs) = (Lent::new(), Lent::new());
     let count = proved_build(build, chart, &mut ours);
     assert_eq!(count, plain_build(build, chart, &mut theirs));
-    assert!(ours.table == theirs.table && ours.vectors == theirs.vectors && ours.rows == theirs.rows);
+    assert!(ours == theirs, "{name}: the two leave different bytes");
     let proved = median(1, || assert_eq!(proved_build(build, black_box(chart), &mut ours), count));
     let plain = median(1, || assert_eq!(plain_build(build, black_box(chart), &mut theirs), count));
     report(&format!("{name}, {count} states"), proved, plain)
@@ -155,7 +156,7 @@ fn build_charts(rng: &mut Rng) -> Vec<(String, Vec<u8>)> {
         for (n, m) in [(4, 2), (8, 4), (12, 8), (24, 16)] {
             charts.push((format!("{name}, n {n}, m {m}"), Drawing::with_sizes(rng, tables.clone(), n, m).bytes()));
         }
-        for back in [6, 9, 11] {
+        for back in [6, 9, 11, 12] {
             charts.push((format!("{name}, remembering {back}"), tight::remembering(tables.clone(), back, true).bytes()));
         }
     }
