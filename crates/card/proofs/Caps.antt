@@ -17,7 +17,7 @@ use Rattle.paper.specs.Check.{checkReply}
 use Rattle.paper.specs.Vectors.{joins}
 use Rattle.paper.specs.Tables.{gradeAt, nextFits, sizeFits, rowFits, tableFits, tableFitsChart, capOf, capReply}
 use Rattle.lists.proofs.Tests.{both-left, both-right, all-at}
-use Rattle.chart.specs.Shaped.{Shaped, Read}
+use Rattle.cells.specs.Shaped.{Shaped, Read}
 use Rattle.chart.proofs.Checked.{fits-fine, fits-refused}
 use Rattle.tables.specs.Walking.{RowIn}
 use Rattle.tables.proofs.Rows.{row-in}

@@ -5,7 +5,7 @@ use mathlib.Core.List.{List}
 use Prim.Native.Nat.{ℕ}
 use Rattle.paper.specs.declared.Shape.{Shape}
 use Rattle.paper.specs.Tables.{tableFitsChart}
-use Rattle.chart.specs.Shaped.{Shaped}
+use Rattle.cells.specs.Shaped.{Shaped}
 
 -- a table beside a chart of this shape, neither of them refused
 pub record Beside (c : List ℕ) (s : Shape) (rows : List ℕ) (count m : ℕ) : Type 0 where

@@ -1,11 +1,11 @@
 // Inner: a table beside a chart that was checked. Each has a `requires`, so only proved code may call them.
-use chart::inner::join;
+use cells::join;
 use paper::Shape;
 use tables::inner::grade_at;
 use tables::inner::table_fits;
 ghost use mathlib.Core.Path.{_≡_};
 ghost use Rattle.paper.specs.Tables.{tableFitsChart, capOf};
-ghost use Rattle.chart.specs.Shaped.{Shaped};
+ghost use Rattle.cells.specs.Shaped.{Shaped};
 ghost use Rattle.card.specs.Capped.{Beside};
 
 // Whether the table's letters and grades are the chart's, and it can be walked.

@@ -16,9 +16,9 @@ use Rattle.paper.specs.Chart.{headSize, kOf, eOf, nOf, mOf, letters, chartSize}
 use Rattle.paper.specs.Check.{headFits, gradeFits, gradesFit, brokenLaw, brokenAt, shapeOf, checkReply, chartFits}
 use Rattle.paper.proofs.Said.{said-refuses}
 use Rattle.lists.proofs.Tests.{all-at, unless-passed}
-use Rattle.chart.specs.declared.laws.Broken.{Broken}
-use Rattle.chart.specs.Laws.{FirstBroken}
-use Rattle.chart.specs.Shaped.{Sizes, Shaped}
+use Rattle.laws.specs.declared.Broken.{Broken}
+use Rattle.laws.specs.Laws.{FirstBroken}
+use Rattle.cells.specs.Shaped.{Sizes, Shaped}
 use Rattle.chart.proofs.Ranges.{sizes-are}
 
 -- ---- what the tests that a chart passed tell, each record with the one before

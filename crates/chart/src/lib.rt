@@ -1,18 +1,16 @@
-// The chart check, and the readers of a chart that was checked.
+// The chart check.
 ghost use mathlib.Core.Path.{_≡_};
 ghost use Rattle.paper.specs.Check.{checkReply};
 ghost use Rattle.paper.specs.Replies.{checkedSaid};
 
-pub mod inner;
-mod laws;
 pub mod sizes;
 
-use crate::laws::Broken;
-use crate::laws::first_broken;
 use crate::sizes::HEAD;
 use crate::sizes::grades_fit;
 use crate::sizes::laid_out;
 use crate::sizes::sizes_fit;
+use laws::Broken;
+use laws::first_broken;
 use paper::Checked;
 use paper::Refusal;
 

@@ -58,11 +58,6 @@ front-is n old f h e =
     at i (yes l) = e i l ∙ sym (getD-inFront (tabulate n f) old i (rw length-tabulate l) ∙ getD-tabulate n f 0 i l)
     at i (no l) = sym (getD-behind (tabulate n f) old i (rw length-tabulate (omega arith)))
 
--- a list of one length written over another
-pub inFront-over : (a b old : List ℕ) → length a ≡ length b → inFront a (inFront b old) ≡ inFront a old
-unfolding inFront
-inFront-over a b old e = rw (e, drop-at b (drop (length b) old) (length b) refl)
-
 -- ---- zeros
 
 pub zeros-more : (i : ℕ) (out d : List ℕ) → i < length d → out ≡ replicate i 0 ++ drop i d → set out i 0 ≡ replicate (i + 1) 0 ++ drop (i + 1) d

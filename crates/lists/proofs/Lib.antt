@@ -1,3 +1,5 @@
 pub mod Tests
+pub mod Bound
 pub mod ByPlace
 pub mod Lent
+pub mod Front

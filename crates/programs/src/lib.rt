@@ -81,7 +81,7 @@ fn write_front(text: &[u8], n: usize) {
 // One line with a refusal's number.
 fn refuse(why: Refusal) {
     let mut line = [0u8; 9];
-    text::print::print_refusal(paper::number(why), &mut line);
+    printing::print_refusal(paper::number(why), &mut line);
     io::write_all(STDOUT_FILENO, &line);
 }
 
@@ -91,7 +91,7 @@ fn show(chart: &[u8], table: &[u8], count: usize) {
         Checked::Refused(why) => refuse(why),
         Checked::Fine(shape) => {
             let mut out = table_text_buffer();
-            match text::print::print_table(chart, table, count, shape.letters, &mut out) {
+            match printing::print_table(chart, table, count, shape.letters, &mut out) {
                 Written::Refused(why) => refuse(why),
                 Written::Bytes(n) => write_front(&out, n),
             }
@@ -101,7 +101,7 @@ fn show(chart: &[u8], table: &[u8], count: usize) {
 
 // Reads the chart into `chart`. Where it is refused, the refusal is printed and false is answered.
 fn read(text: &[u8], chart: &mut [u8]) -> bool {
-    match text::read::read_chart(text, chart) {
+    match reading::read_chart(text, chart) {
         Written::Refused(why) => {
             refuse(why);
             false
@@ -123,7 +123,7 @@ pub fn nerode(text: &[u8]) {
     if read(text, &mut chart) {
         let mut table = table_buffer();
         let mut vectors = vector_buffer();
-        let built = builders::nerode(&chart, ROOM, &mut table, &mut vectors);
+        let built = forward::nerode(&chart, ROOM, &mut table, &mut vectors);
         finish(&chart, &table, built);
     }
 }
@@ -134,7 +134,7 @@ pub fn reduced(text: &[u8]) {
     if read(text, &mut chart) {
         let mut table = table_buffer();
         let mut vectors = vector_buffer();
-        let built = builders::reduced(&chart, ROOM, &mut table, &mut vectors);
+        let built = forward::reduced(&chart, ROOM, &mut table, &mut vectors);
         finish(&chart, &table, built);
     }
 }
@@ -145,7 +145,7 @@ fn build_brz(chart: &[u8]) {
     let mut reverse_table = reverse_table_buffer();
     let mut reverse_vectors = reverse_vector_buffer();
     let mut rows = row_buffer();
-    match builders::brzozowski(
+    match backward::brzozowski(
         chart,
         ROOM,
         REVERSE_ROOM,

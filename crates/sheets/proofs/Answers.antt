@@ -17,7 +17,7 @@ use Rattle.paper.specs.Tables.{tableFits, tableFitsChart}
 use Rattle.paper.specs.Sheets.{lineState, lineVector, lineGradeFits, lineFits, sheetFits, onSheet, gradeHolds, nextHolds, badLine, lineReply, sheetReply}
 use Rattle.lists.proofs.Tests.{both-split, all-at}
 use Rattle.lists.proofs.ByPlace.{length-tabulate}
-use Rattle.chart.specs.Shaped.{Shaped}
+use Rattle.cells.specs.Shaped.{Shaped}
 use Rattle.chart.proofs.Checked.{fits-fine, fits-refused}
 use Rattle.card.proofs.Caps.{row-beside}
 use Rattle.sheets.specs.Readable.{LinesIn, Readable, linesReply}

@@ -16,7 +16,7 @@ use Rattle.paper.specs.Tables.{gradeAt, nextAt}
 use Rattle.paper.specs.Sheets.{lineState, lineVector, otherPair, onSheet, gradeHolds, nextHolds, lineHolds, badLine}
 use Rattle.lists.proofs.Tests.{all-at, all-by, all-fails, all-more, least, least-is, least-none, both-not-left}
 use Rattle.lists.proofs.ByPlace.{length-tabulate}
-use Rattle.chart.specs.Shaped.{Shaped, Read}
+use Rattle.cells.specs.Shaped.{Shaped, Read}
 use Rattle.tables.specs.Walking.{RowIn}
 use Rattle.vectors.specs.Products.{Grades}
 use Rattle.sheets.specs.Readable.{Readable}

@@ -14,7 +14,7 @@ use Rattle.paper.specs.Chart.{kOf, nOf, startFrom, gradeFrom, startVec}
 use Rattle.paper.specs.Sheets.{lineAt, lineState, lineVector, lineGradeFits, lineFits, sheetFits}
 use Rattle.lists.proofs.Tests.{both-false, all-fails, all-more}
 use Rattle.lists.proofs.ByPlace.{length-tabulate, getD-tabulate, same-by, same-not, length-part, getD-part}
-use Rattle.chart.specs.Shaped.{Shaped}
+use Rattle.cells.specs.Shaped.{Shaped}
 use Rattle.sheets.specs.Readable.{LineIn, LinesIn}
 
 -- ---- one line

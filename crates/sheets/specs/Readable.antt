@@ -7,7 +7,7 @@ use Rattle.paper.specs.declared.Shape.{Shape}
 use Rattle.paper.specs.Lists.{unless}
 use Rattle.paper.specs.Replies.{Reply, fine}
 use Rattle.paper.specs.Sheets.{lineState, lineVector, badLine, lineReply}
-use Rattle.chart.specs.Shaped.{Shaped}
+use Rattle.cells.specs.Shaped.{Shaped}
 use Rattle.tables.specs.Walking.{RowIn}
 
 -- a checked chart, and line i of the sheet inside the sheet's bytes

@@ -6,7 +6,7 @@ ghost use lib.ListN.{length};
 ghost use Rattle.paper.specs.Lists.{sameList};
 ghost use Rattle.paper.specs.Chart.{startVec};
 ghost use Rattle.paper.specs.Sheets.{lineState, lineVector, lineFits, sheetFits};
-ghost use Rattle.chart.specs.Shaped.{Shaped};
+ghost use Rattle.cells.specs.Shaped.{Shaped};
 ghost use Rattle.sheets.specs.Readable.{LineIn};
 
 pub(crate) fn wide(x: u8) -> usize

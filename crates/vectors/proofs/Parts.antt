@@ -13,7 +13,7 @@ use Rattle.paper.specs.Chart.{headSize, kOf, nOf, mOf, letters, startFrom, endF
 use Rattle.paper.specs.Vectors.{combine, combineTerm, colEntry, colTerm, endGrade, startGrade}
 use Rattle.lists.proofs.ByPlace.{getD-tabulate}
 use Rattle.algebra.proofs.Joins.{joins-cong}
-use Rattle.chart.specs.Shaped.{Shaped, Read}
+use Rattle.cells.specs.Shaped.{Shaped, Read}
 use Rattle.vectors.specs.Products.{Grades, PartOf}
 
 module _ {c : List ℕ} {s : Shape} (h : Shaped c s) where

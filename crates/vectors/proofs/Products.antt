@@ -13,8 +13,9 @@ use Rattle.paper.specs.Lists.{tabulate, inFront, zeros}
 use Rattle.paper.specs.Chart.{nOf, join, prod, entry}
 use Rattle.paper.specs.Vectors.{joins, combineTerm, combine, rowTerm, rowEntry, rowTimes, colEntry, timesCol}
 use Rattle.lists.proofs.ByPlace.{length-tabulate, getD-tabulate, tabulate-cong}
-use Rattle.lists.proofs.Lent.{inFront-none, inFront-tabulate, inFront-over, getD-inFront, getD-behind, front-is}
-use Rattle.chart.specs.Shaped.{Shaped, Read}
+use Rattle.lists.proofs.Front.{front-front}
+use Rattle.lists.proofs.Lent.{inFront-none, inFront-tabulate, getD-inFront, getD-behind, front-is}
+use Rattle.cells.specs.Shaped.{Shaped, Read}
 use Rattle.vectors.specs.Products.{Grades, Blank, joinedAt, RowJoined}
 
 -- no term yet: grade 0
@@ -123,7 +124,7 @@ module _ (c : List ℕ) (k n x : ℕ) (v old : List ℕ) where
             j .is
             ∙ ap (λ front. inFront front out) (tabulate-cong n (joinedAt c x p a out) (rowsAt c x v (p + 1)) (λ q l. rw (add-one, e, at q l)))
             ∙ ap (inFront (tabulate n (rowsAt c x v (p + 1)))) (r .is)
-            ∙ inFront-over (tabulate n (rowsAt c x v (p + 1))) (tabulate n (rowsAt c x v p)) old (length-tabulate n _ ∙ sym (length-tabulate n _));
+            ∙ front-front (tabulate n (rowsAt c x v (p + 1))) (tabulate n (rowsAt c x v p)) old (rw (length-tabulate, length-tabulate) (le-refl n));
         grades = j .low;
       }
     where

@@ -1,3 +1,2 @@
-// Vectors of grades: combining them, their products with a letter's matrix, and searching among them.
-pub mod places;
+// Vectors of grades: combining them, and their products with a letter's matrix.
 pub mod times;

@@ -1,7 +1,7 @@
 // Products of vectors with a letter's matrix. Sizes and offsets come by value; nothing is tested or divided here.
-use chart::inner::entry;
-use chart::inner::join;
-use chart::inner::prod;
+use cells::entry;
+use cells::join;
+use cells::prod;
 use lists::zero;
 use paper::Shape;
 ghost use mathlib.Core.Path.{_≡_};
@@ -10,7 +10,7 @@ ghost use lib.ListN.{length};
 ghost use Rattle.paper.specs.Lists.{inFront, tabulate};
 ghost use Rattle.paper.specs.Chart.{headSize, gradeFrom};
 ghost use Rattle.paper.specs.Vectors.{combine, rowTimes, timesCol, colEntry, endGrade, startGrade};
-ghost use Rattle.chart.specs.Shaped.{Shaped, Read};
+ghost use Rattle.cells.specs.Shaped.{Shaped, Read};
 ghost use Rattle.vectors.specs.Products.{Grades, Blank, RowJoined, PartOf};
 
 // Two vectors combined: the join of their products, place by place.

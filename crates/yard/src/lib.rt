@@ -3,7 +3,7 @@ ghost use mathlib.Core.Path.{_≡_};
 ghost use mathlib.Core.Bool.{true};
 ghost use Prim.Native.Nat.{_<_, _≤_};
 ghost use lib.ListN.{length};
-ghost use Rattle.chart.specs.Shaped.{Shaped};
+ghost use Rattle.cells.specs.Shaped.{Shaped};
 ghost use Rattle.vectors.specs.Products.{Grades};
 use paper::Built;
 use paper::BuiltBoth;
@@ -87,7 +87,7 @@ pub extern "C" fn yard_nerode(
     table: &mut [u8],
     vectors: &mut [u8],
 ) -> usize {
-    states(builders::nerode(chart, room, table, vectors))
+    states(forward::nerode(chart, room, table, vectors))
 }
 
 #[no_mangle]
@@ -97,7 +97,7 @@ pub extern "C" fn yard_reduced(
     table: &mut [u8],
     vectors: &mut [u8],
 ) -> usize {
-    states(builders::reduced(chart, room, table, vectors))
+    states(forward::reduced(chart, room, table, vectors))
 }
 
 #[no_mangle]
@@ -110,7 +110,7 @@ pub extern "C" fn yard_brzozowski(
     reverse_vectors: &mut [u8],
     rows: &mut [u8],
 ) -> usize {
-    match builders::brzozowski(
+    match backward::brzozowski(
         chart,
         room,
         reverse_room,

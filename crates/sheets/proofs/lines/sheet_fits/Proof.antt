@@ -1,6 +1,6 @@
 -- `sheets::lines::sheet_fits` meets its contract. The loop's invariant: the lines passed fit. Assumes nothing.
 use native.Mathlib.Omega.{arith}
-use Rattle.tables.proofs.Bound.{product}
+use Rattle.lists.proofs.Bound.{product}
 use mathlib.Core.Path.{_≡_, refl}
 use mathlib.Core.Bool.{true}
 use Prim.Native.Nat.{_+_, _-_, _≤_}

@@ -6,7 +6,7 @@ use native.Mathlib.Omega.{arith}
 use Prim.Native.Nat.{_+_, _*_}
 use Rattle.paper.specs.Lists.{both}
 use Rattle.paper.specs.Tables.{sizeFits}
-use Rattle.tables.proofs.Bound.{product}
+use Rattle.lists.proofs.Bound.{product}
 use Rattle.tables.proofs.inner.size_fits.Statement.{statement}
 use Rattle.tables.proofs.inner.size_fits.Tie as tie
 

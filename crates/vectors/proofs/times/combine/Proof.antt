@@ -3,7 +3,7 @@ use native.Mathlib.Omega.{arith}
 use Prim.Native.Nat.{_≤_, _-_}
 use mathlib.Core.Path.{refl}
 use borrow.Author.Needs.{needs}
-use Rattle.chart.specs.Shaped.{Read}
+use Rattle.cells.specs.Shaped.{Read}
 use Rattle.paper.specs.Vectors.{joins, combineTerm}
 use Rattle.vectors.proofs.Products.{joins-start, combine-more, combine-end}
 use Rattle.vectors.proofs.times.combine.Statement.{statement}

@@ -1,0 +1,167 @@
+-- The letters of one state taken one after the other, its row, and the row's place in the table. Assumes nothing.
+use mathlib.Core.Path.{_≡_, refl, sym, ap, _∙_}
+use mathlib.Core.List.{List, [], _∷_}
+use Prim.Native.Nat.{ℕ, suc, _+_, _-_, _*_, _≤_, _<_}
+use native.Mathlib.Nat.{mul-le-mul}
+use native.Mathlib.Numerals.{add-one, one-add}
+use native.Mathlib.Omega.{arith}
+use lib.ListN.{length, take, drop, set, length-set}
+use borrow.Rule.Slice.PartMut.{putMid}
+use Rattle.paper.specs.Lists.{joined, inFront}
+use Rattle.paper.specs.Tables.{twoBytes, rowSize}
+use Rattle.paper.specs.Numbering.{place, expanded}
+use Rattle.paper.specs.Constructions.{Construction}
+use Rattle.lists.proofs.ByPlace.{length-joined}
+use Rattle.lists.proofs.Lent.{inFront-none}
+use Rattle.numbering.proofs.ListLaws.{extends-length}
+use Rattle.numbering.proofs.Kept.{expanded-suc, expanded-more}
+use Rattle.places.specs.Search.{placeAt}
+use Rattle.places.proofs.Search.{length-values}
+use Rattle.kinds.specs.Kinds.{made}
+use Rattle.search.specs.Kept.{Holds}
+use Rattle.places.specs.Memory.{spliced, Apart}
+use Rattle.search.specs.Kept.{keptIn}
+use Rattle.expand.specs.Taken.{Settles, grown, foundBytes, nextsFor, rowFor, rowIn, Taken, TakenAs, Asks, ExpandAsks}
+use Rattle.kinds.specs.declared.Plan.{Plan}
+use Rattle.expand.specs.declared.Grown.{Grown}
+use Rattle.expand.specs.declared.Grown.the-variants.{Held, Full}
+use Rattle.places.proofs.Memory.{lent-from, inFront-splice, apart-refl, apart-trans}
+use Rattle.kinds.proofs.KindLaws.{row-inside}
+use Rattle.search.proofs.Found.{place-inside}
+
+length-found : (b : Construction) (vs : List (List ℕ)) (v : List ℕ) (x : ℕ) → length (foundBytes b vs v x) ≡ 2
+unfolding foundBytes twoBytes
+length-found b vs v x = refl
+
+-- the bytes of x next states are 2 x
+length-pairs : (b : Construction) (vs : List (List ℕ)) (v : List ℕ) (x : ℕ) → length (joined x (foundBytes b vs v)) ≡ 2 * x
+length-pairs b vs v x = omega (arith, length-joined x 2 (foundBytes b vs v) (λ y l. length-found b vs v y))
+
+pub length-rowFor : (b : Construction) (m : ℕ) (vs : List (List ℕ)) (v : List ℕ) → length (rowFor b m vs v) ≡ rowSize m
+unfolding rowFor nextsFor
+length-rowFor b m vs v = omega (arith, length-pairs b vs v m)
+
+-- ---- the letters
+
+-- the letters below x taken, with `held` states kept in `new`, from `first` in `old`
+pub record NextsTo (p : Plan) (c t : List ℕ) (first : ℕ) (v row₀ row old new marks : List ℕ) (held x : ℕ) : Type 0 where
+  pub turn : x ≤ p .shape .letters
+  pub roomy : held ≤ p .room
+  pub row-long : length row ≡ length row₀
+  pub listed : keptIn p held new ≡ expanded (made p c t .key) (made p c t .step) x v (keptIn p first old)
+  pub holds : Holds c p new marks held
+  pub apart : Apart (p .stride) (p .width) (suc (p .room)) old new
+  pub row-is : row ≡ inFront (joined x (foundBytes (made p c t) (keptIn p first old) v)) row₀
+
+module _ (p : Plan) (c t : List ℕ) (first : ℕ) (v row₀ old : List ℕ) where
+  pub nexts-none : (marks : List ℕ) → Asks p c t first v old marks → NextsTo p c t first v row₀ row₀ old old marks first 0
+  unfolding expanded joined
+  nexts-none marks a =
+      record { turn = omega arith; roomy = a .roomy; row-long = refl; listed = refl; holds = a .holds; apart = apart-refl _ _ _ _; row-is = inFront-none row₀ }
+
+  module _ {row new marks : List ℕ} {held x : ℕ} (so : NextsTo p c t first v row₀ row old new marks held x) where
+    pub nexts-asks : {marks₀ : List ℕ} → Asks p c t first v old marks₀ → Asks p c t held v new marks
+    nexts-asks a = record { ready = a .ready; roomy = so .roomy; value = a .value; holds = so .holds }
+
+    module _ {new′ marks′ : List ℕ} {at more : ℕ} (h : x < p .shape .letters) (s : Settles p c t x v new new′ marks′ held at more) where
+      -- the list with letter x's value kept
+      listed-more : keptIn p more new′ ≡ expanded (made p c t .key) (made p c t .step) (suc x) v (keptIn p first old)
+      listed-more = s .kept-is ∙ rw (so .listed) (sym (expanded-suc (made p c t .key) (made p c t .step) v (keptIn p first old) x))
+
+      pair-is : twoBytes at ≡ foundBytes (made p c t) (keptIn p first old) v x
+      unfolding foundBytes
+      pair-is = ap twoBytes (s .place-is ∙ ap (λ (vs : List (List ℕ)). place (made p c t .key) vs (made p c t .step x v)) (so .listed))
+
+      -- the states that are kept are all listed in the end
+      pub nexts-full : p .room < more → p .room < length (grown p c t first v old)
+      nexts-full r =
+          omega (
+            arith,
+            ap length listed-more,
+            length-values (p .stride) (p .width) more new′,
+            extends-length (expanded-more (made p c t .key) (made p c t .step) v (keptIn p first old) (suc x) (p .shape .letters) h),
+          )
+
+      pub nexts-more : more ≤ p .room → {row′ : List ℕ} → length row′ ≡ length row → row′ ≡ spliced (2 * x) (twoBytes at) row →
+          NextsTo p c t first v row₀ row′ old new′ marks′ more (x + 1)
+      unfolding joined
+      nexts-more r lr w =
+          record {
+            turn = omega arith;
+            roomy = r;
+            row-long = lr ∙ so .row-long;
+            listed = rw add-one listed-more;
+            holds = s .holds;
+            apart = apart-trans (so .apart) (s .apart);
+            row-is = rw add-one (w ∙ inFront-splice _ row₀ (twoBytes at) row (2 * x) (so .row-is) (length-pairs _ _ v x) ∙ rw pair-is);
+          }
+
+    pub nexts-all : x ≡ p .shape .letters → Taken p c t first v (inFront (nextsFor (made p c t) (p .shape .letters) (keptIn p first old) v) row₀) row old new marks held
+    unfolding nextsFor
+    nexts-all e = record { roomy = so .roomy; listed = so .listed ∙ ap (λ y. expanded (made p c t .key) (made p c t .step) y v (keptIn p first old)) e; holds = so .holds; apart = so .apart; row-is = so .row-is ∙ ap (λ y. inFront (joined y (foundBytes (made p c t) (keptIn p first old) v)) row₀) e }
+
+-- ---- the row
+
+-- a first byte, and a run from the second on
+front-cons : (g : ℕ) (new row : List ℕ) → 0 < length row → spliced 1 new (set row 0 g) ≡ inFront (g ∷ new) row
+unfolding spliced inFront
+front-cons g new [] h = absurd (omega arith)
+front-cons g new (y ∷ ys) h = rw one-add
+
+-- one answer for another row
+again : (p : Plan) (c t : List ℕ) (held : ℕ) (v due due′ row row′ old new marks : List ℕ) (r : Grown) → (row ≡ due → row′ ≡ due′) →
+    TakenAs p c t held v due row old new marks r → TakenAs p c t held v due′ row′ old new marks r
+again p c t held v due due′ row row′ old new marks Full f d = d
+again p c t held v due due′ row row′ old new marks (Held h) f d = record { roomy = d .roomy; listed = d .listed; holds = d .holds; apart = d .apart; row-is = f (d .row-is) }
+
+-- the row, from its grade and its next states
+pub row-from : (p : Plan) (c t : List ℕ) (held : ℕ) (v row q old new marks : List ℕ) (g : ℕ) (r : Grown) → rowSize (p .shape .letters) ≤ length row → g ≡ made p c t .grade v →
+    TakenAs p c t held v (inFront (nextsFor (made p c t) (p .shape .letters) (keptIn p held old) v) (take (length (set row 0 g) - 1) (drop 1 (set row 0 g)))) q old new marks r →
+    TakenAs p c t held v (inFront (rowIn p c t held v old) row) (putMid 1 (length (set row 0 g) - 1) (set row 0 g) q) old new marks r
+unfolding rowFor nextsFor
+row-from p c t held v row q old new marks g r h e d =
+    again p c t held v _ _ q _ old new marks r
+    (λ w.
+    lent-from 1 _ (set row 0 g) q (rw (length-pairs, length-set) h) w
+    ∙ front-cons g _ row (omega arith)
+    ∙ rw e)
+    d
+
+-- the row in its place in the table
+pub expand-from : (p : Plan) (c t : List ℕ) (i held : ℕ) (table q old new marks v : List ℕ) (r : Grown) → i * rowSize (p .shape .letters) + rowSize (p .shape .letters) ≤ length table →
+    v ≡ placeAt (p .stride) (p .width) old i →
+    TakenAs p c t held v (inFront (rowIn p c t held v old) (take (length table - i * rowSize (p .shape .letters)) (drop (i * rowSize (p .shape .letters)) table))) q old new marks r →
+    TakenAs p c t held (placeAt (p .stride) (p .width) old i)
+    (spliced (i * rowSize (p .shape .letters)) (rowIn p c t held (placeAt (p .stride) (p .width) old i) old) table)
+    (putMid (i * rowSize (p .shape .letters)) (length table - i * rowSize (p .shape .letters)) table q) old new marks r
+expand-from p c t i held table q old new marks v r h ev d =
+    rw (← ev)
+    (again p c t held v _ _ q _ old new marks r (λ w. lent-from (i * rowSize (p .shape .letters)) (rowIn p c t held v old) table q (rw length-rowFor h) w) d)
+
+-- row i of the table is within it
+pub row-within : {p : Plan} {c t : List ℕ} {i held : ℕ} {table vectors marks : List ℕ} → ExpandAsks p c t i held table vectors marks →
+    i * rowSize (p .shape .letters) + rowSize (p .shape .letters) ≤ length table
+row-within {p} {c} {t} {i} {held} {table} a = row-inside i (p .room) (rowSize (p .shape .letters)) (length table) (omega (arith, a .below, a .roomy)) (a .table-fits)
+
+-- what is known of state i and the copy of its value
+module _ {p : Plan} {c t : List ℕ} {i held : ℕ} {table vectors marks : List ℕ} (a : ExpandAsks p c t i held table vectors marks) where
+  -- its row's offset is small
+  pub row-small : i * rowSize (p .shape .letters) ≤ 135168
+  row-small =
+      let i-low : i ≤ 4096 = omega (arith, a .below, a .roomy, a .ready .sized .room-high) in
+      let m-low : rowSize (p .shape .letters) ≤ 33 = omega (arith, a .ready .sized .shaped .letters-high) in
+      mul-le-mul i-low m-low
+
+  pub copy-inside : i * p .stride + p .width ≤ length vectors
+  copy-inside = omega (arith, place-inside (a .holds) i (omega (arith, a .below, a .roomy)), a .ready .sized .inside)
+
+  module _ (copy : List ℕ) (e : take (p .width) copy ≡ take (p .width) (drop (i * p .stride) vectors)) where
+    pub copy-is : take (p .width) copy ≡ placeAt (p .stride) (p .width) vectors i
+    unfolding placeAt
+    copy-is = e
+
+    pub copy-asks : Asks p c t held (take (p .width) copy) vectors marks
+    copy-asks = record { ready = a .ready; roomy = a .roomy; value = rw copy-is (a .holds .values i (a .below)); holds = a .holds }
+
+    pub copy-long : length (take (p .width) copy) ≡ p .width
+    copy-long = copy-asks .value .long

@@ -1,0 +1,86 @@
+use Prim.Native.Nat.{_<_}
+use mathlib.Core.Path.{_≡_, refl, _∙_}
+use lib.ListN.{length}
+use Prim.Native.Nat.{_-_}
+use native.Mathlib.Omega.{arith}
+use Rattle.expand.proofs.Growing.{NextsTo, nexts-none, nexts-asks, nexts-more, nexts-full, nexts-all}
+use borrow.Author.Needs.{needs}
+use Rattle.expand.proofs.nexts.Statement.{statement}
+use Rattle.expand.proofs.nexts.Tie as tie
+use Rattle.expand.proofs.nexts.Reads as reads
+use Rattle.expand.proofs.nexts.Lts as lts
+use Rattle.expand.proofs.put_two.Reads as put-two-reads
+use Rattle.expand.proofs.settle.Reads as settle-reads
+
+abbrev Inv-loop : tie.InvT-loop
+Inv-loop plan chart reverse v first row₀ vectors₀ marks₀ held₀ x₀ row vectors marks held x = NextsTo plan chart reverse first v row₀ row vectors₀ vectors marks held x × (length marks ≡ length marks₀)
+
+abbrev μ-loop : tie.MeasureT-loop
+μ-loop plan chart reverse v first row₀ vectors₀ marks₀ held₀ x₀ row vectors marks held x = plan .shape .letters - x
+
+loop-holds : tie.Need-loop-holds Inv-loop μ-loop
+loop-holds c = (nexts-none _ _ _ _ _ _ _ _ (c .before .before .before .before .before .before .pre .0), refl)
+
+settle-requires : tie.Need-settle-requires Inv-loop μ-loop
+settle-requires c κs = (search needs, nexts-asks _ _ _ _ _ _ _ (c .before .before .before .before .loop .inv .0) (c .before .before .before .before .before .before .before .before .before .before .before .pre .0))
+
+same-length : tie.Need-same-length Inv-loop μ-loop
+same-length c = search needs
+
+same-length-2 : tie.Need-same-length-2 Inv-loop μ-loop
+same-length-2 c = search needs
+
+same-length-3 : tie.Need-same-length-3 Inv-loop μ-loop
+same-length-3 c = c .before .before .before .before .before .before .settle .kept .1 .1 .1 .1 .1 .1 .0 ∙ c .before .before .before .before .before .before .before .before .before .before .before .loop .inv .1
+
+returns : tie.Need-returns Inv-loop μ-loop
+returns c = nexts-full _ _ _ _ _ _ _ (c .before .before .before .before .before .before .before .before .before .before .before .loop .inv .0) (search needs) (c .before .before .before .before .before .before .settle .ensures) (c .if2 .taken)
+
+mul-put-two : tie.Need-mul-put-two Inv-loop μ-loop
+mul-put-two c = omega (arith, c .before .before .before .before .before .before .before .before .before .before .before .before .loop .inv .0 .turn, c .before .before .before .before .before .before .before .before .before .before .before .before .before .before .before .before .before .before .before .pre .0 .ready .sized .shaped .letters-high)
+
+put-two-requires : tie.Need-put-two-requires Inv-loop μ-loop
+put-two-requires c κs = let h : c .before .before .before .before .before .before .before .before .before .before .before .before .loop .x < c .before .before .before .before .before .before .before .before .before .before .before .before .before .before .before .before .before .before .before .args .plan .shape .letters = search needs in omega (arith, c .before .before .before .before .before .before .before .before .before .before .before .before .loop .inv .0 .row-long, c .before .before .before .before .before .before .before .before .before .before .before .before .before .before .before .before .before .before .before .pre .1)
+
+add-x : tie.Need-add-x Inv-loop μ-loop
+add-x c = search needs
+
+loop-less : tie.Need-loop-less Inv-loop μ-loop
+loop-less c = search needs
+
+loop-again : tie.Need-loop-again Inv-loop μ-loop
+loop-again c = (nexts-more _ _ _ _ _ _ _ (c .before .before .before .before .before .before .before .before .before .before .before .before .before .before .before .loop .inv .0) (search needs) (c .before .before .before .before .before .before .before .before .before .before .settle .ensures) (search needs) (c .before .before .put-two .kept .0) (c .before .before .put-two .ensures), c .before .before .before .before .before .before .before .before .before .before .settle .kept .1 .1 .1 .1 .1 .1 .0 ∙ c .before .before .before .before .before .before .before .before .before .before .before .before .before .before .before .loop .inv .1)
+
+same-length-4 : tie.Need-same-length-4 Inv-loop μ-loop
+same-length-4 c = search needs
+
+same-length-5 : tie.Need-same-length-5 Inv-loop μ-loop
+same-length-5 c = search needs
+
+same-length-6 : tie.Need-same-length-6 Inv-loop μ-loop
+same-length-6 c = search needs
+
+returns-2 : tie.Need-returns-2 Inv-loop μ-loop
+returns-2 c = nexts-all _ _ _ _ _ _ _ (c .before .before .loop .inv .0) (search needs)
+
+pub nexts-spec : {M : Type 1} → statement M
+nexts-spec =
+    tie.close
+    (tie.spec
+    Inv-loop
+    μ-loop
+    loop-holds
+    settle-requires
+    same-length
+    same-length-2
+    same-length-3
+    returns
+    mul-put-two
+    put-two-requires
+    add-x
+    loop-less
+    loop-again
+    same-length-4
+    same-length-5
+    same-length-6
+    returns-2)

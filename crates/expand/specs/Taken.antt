@@ -1,0 +1,68 @@
+-- What expanding a state requires and leaves, by the definitions.
+use mathlib.Core.Path.{_≡_}
+use mathlib.Core.List.{List, _∷_}
+use Prim.Native.Nat.{ℕ, suc, _*_, _≤_, _<_}
+use lib.ListN.{length}
+use Rattle.paper.specs.Tables.{rowSize, twoBytes}
+use Rattle.kinds.specs.declared.Plan.{Plan}
+use Rattle.paper.specs.Lists.{joined}
+use Rattle.paper.specs.Numbering.{place, kept, expanded}
+use Rattle.paper.specs.Constructions.{Construction}
+use Rattle.kinds.specs.Kinds.{made}
+use Rattle.kinds.specs.Ready.{Ready, Value}
+use Rattle.places.specs.Memory.{Apart}
+use Rattle.expand.specs.declared.Grown.{Grown}
+use Rattle.expand.specs.declared.Grown.the-variants.{Held, Full}
+use Rattle.search.specs.Kept.{keptIn, Holds}
+
+-- letter x's candidate from v settled: its place, and how many are kept with it
+pub record Settles (p : Plan) (c t : List ℕ) (x : ℕ) (v old new marks : List ℕ) (held at more : ℕ) : Type 0 where
+  pub place-is : at ≡ place (made p c t .key) (keptIn p held old) (made p c t .step x v)
+  pub kept-is : keptIn p more new ≡ kept (made p c t .key) (keptIn p held old) (made p c t .step x v)
+  pub holds : Holds c p new marks more
+  pub apart : Apart (p .stride) (p .width) (suc (p .room)) old new
+
+-- the states once v's letters are all taken, from `held` kept in `old`
+abbrev pub grown : Plan → List ℕ → List ℕ → ℕ → List ℕ → List ℕ → List (List ℕ)
+grown p c t held v old = expanded (made p c t .key) (made p c t .step) (p .shape .letters) v (keptIn p held old)
+
+-- letter x's next state, where vs is listed before the first letter
+unfoldable pub foundBytes : Construction → List (List ℕ) → List ℕ → ℕ → List ℕ
+foundBytes b vs v x = twoBytes (place (b .key) (expanded (b .key) (b .step) x v vs) (b .step x v))
+
+-- the next states by all letters, and the row that they are in
+unfoldable pub nextsFor : Construction → ℕ → List (List ℕ) → List ℕ → List ℕ
+nextsFor b m vs v = joined m (foundBytes b vs v)
+
+unfoldable pub rowFor : Construction → ℕ → List (List ℕ) → List ℕ → List ℕ
+rowFor b m vs v = b .grade v ∷ nextsFor b m vs v
+
+abbrev pub rowIn : Plan → List ℕ → List ℕ → ℕ → List ℕ → List ℕ → List ℕ
+rowIn p c t held v old = rowFor (made p c t) (p .shape .letters) (keptIn p held old) v
+
+-- v's letters all taken: h states are kept, and the row's bytes are what is due
+pub record Taken (p : Plan) (c t : List ℕ) (held : ℕ) (v due row old new marks : List ℕ) (h : ℕ) : Type 0 where
+  pub roomy : h ≤ p .room
+  pub listed : keptIn p h new ≡ grown p c t held v old
+  pub holds : Holds c p new marks h
+  pub apart : Apart (p .stride) (p .width) (suc (p .room)) old new
+  pub row-is : row ≡ due
+
+abbrev pub TakenAs : Plan → List ℕ → List ℕ → ℕ → List ℕ → List ℕ → List ℕ → List ℕ → List ℕ → List ℕ → Grown → Type 0
+TakenAs p c t held v due row old new marks Full = p .room < length (grown p c t held v old)
+TakenAs p c t held v due row old new marks (Held h) = Taken p c t held v due row old new marks h
+
+-- what taking the letters of a value asks for
+pub record Asks (p : Plan) (c t : List ℕ) (held : ℕ) (v vectors marks : List ℕ) : Type 0 where
+  pub ready : Ready c t p
+  pub roomy : held ≤ p .room
+  pub value : Value (p .shape .k) (p .width) v
+  pub holds : Holds c p vectors marks held
+
+-- and expanding state i
+pub record ExpandAsks (p : Plan) (c t : List ℕ) (i held : ℕ) (table vectors marks : List ℕ) : Type 0 where
+  pub ready : Ready c t p
+  pub below : i < held
+  pub roomy : held ≤ p .room
+  pub holds : Holds c p vectors marks held
+  pub table-fits : p .room * rowSize (p .shape .letters) ≤ length table

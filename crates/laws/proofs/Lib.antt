@@ -1,0 +1,3 @@
+mod FirstBroken
+mod LawTests
+mod Tries

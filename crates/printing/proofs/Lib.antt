@@ -1,0 +1,3 @@
+pub mod TextSize
+pub mod Printed
+pub mod TableText

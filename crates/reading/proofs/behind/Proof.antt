@@ -1,0 +1,42 @@
+-- `reading::behind` meets its contract: one more line of the kind, or the first of the next.
+-- Assumes nothing.
+use borrow.Author.Needs.{needs}
+use Rattle.reading.proofs.Dues.{behind-line, behind-last}
+use Rattle.reading.proofs.behind.Statement.{statement}
+use Rattle.reading.proofs.behind.Tie as tie
+
+add-line : tie.Need-add-line
+add-line c = search needs
+
+mul-pos : tie.Need-mul-pos
+mul-pos c = search needs
+
+add-pos : tie.Need-add-pos
+add-pos c = search needs
+
+add-pos-2 : tie.Need-add-pos-2
+add-pos-2 c = search needs
+
+add-at : tie.Need-add-at
+add-at c = search needs
+
+sub-t11 : tie.Need-sub-t11
+sub-t11 c = search needs
+
+returns : tie.Need-returns
+returns c =
+    let s = c .before .before .before .before .before .before .before .before .args in
+    behind-line _ (s .cursor) (s .due) (search needs) (search needs)
+
+rule-of-requires : tie.Need-rule-of-requires
+rule-of-requires c κs = search needs
+
+returns-2 : tie.Need-returns-2
+returns-2 c =
+    let s = c .before .before .before .before .before .before .before .before .args in
+    behind-last _ (s .cursor) (s .due) (search needs) (search needs) (c .rule-of .result) (search needs)
+
+pub behind-spec : {M : Type 1} → statement M
+behind-spec =
+    tie.close
+    (tie.spec add-line mul-pos add-pos add-pos-2 add-at sub-t11 returns rule-of-requires returns-2)

@@ -1,0 +1,198 @@
+// Reading a chart's text.
+use chart::check;
+use chart::sizes::sizes_fit;
+use frames::digits::byte_at;
+use frames::read_frame;
+use lists::zero;
+use paper::Checked;
+use paper::Refusal;
+use paper::Written;
+ghost use mathlib.Core.Path.{_≡_};
+ghost use Prim.Native.Nat.{_≤_};
+ghost use lib.ListN.{length};
+ghost use Rattle.paper.specs.Replies.{writtenSaid};
+ghost use Rattle.paper.specs.Texts.{Filled, chartMost, linesOfText, linesRead, readChart};
+ghost use Rattle.reading.specs.Reading.{Few, Ruled, Stepping, behindLine, RestIn, restLines, LinesSay, zeroedBy};
+
+// A text has at most so many bytes, and so has a chart.
+const TEXT_MOST: usize = 22493;
+
+const CHART_MOST: usize = 9780;
+
+// The sizes that decide how many lines a chart has, and how long they are.
+pub struct Counts {
+    pub k: usize,
+    pub n: usize,
+    pub m: usize,
+}
+
+// What a kind of frame asks for: its payload's length, how many lines of it there are, and the kind due after them.
+pub struct Rule {
+    pub width: usize,
+    pub lines: usize,
+    pub next: usize,
+}
+
+// Where reading stands: the kind due and how many lines of it are left; the line, from 1, and where it begins in the text; where its
+// bytes go in the chart.
+pub struct Cursor {
+    pub kind: usize,
+    pub left: usize,
+    pub line: usize,
+    pub pos: usize,
+    pub at: usize,
+}
+
+// What reading lines comes to: a chart's bytes, so many of them; the first line that is not the frame due there; a head out of range.
+pub enum Frames {
+    Chart(usize),
+    BadLine(usize),
+    BadHead,
+}
+
+// The kind decides how long the payload is, how many lines there are, and which kind is due next. Behind 06 nothing is due.
+fn rule_of(kind: usize, counts: Counts) -> Rule
+    requires { ⌜ (1 ≤ kind) × (kind ≤ 7) × Few counts ⌝ }
+    ensures { λ r. ⌜ Ruled counts kind r ⌝ }
+{
+    match kind {
+        1 => Rule {
+            width: 4,
+            lines: 1,
+            next: 2,
+        },
+        2..=3 => Rule {
+            width: counts.k,
+            lines: counts.k,
+            next: kind + 1,
+        },
+        4..=5 => Rule {
+            width: counts.n,
+            lines: 1,
+            next: kind + 1,
+        },
+        6 => Rule {
+            width: counts.n,
+            lines: counts.m * counts.n,
+            next: 7,
+        },
+        _ => Rule {
+            width: counts.n,
+            lines: 0,
+            next: 8,
+        },
+    }
+}
+
+// Where reading stands behind the line at a cursor: at the next line of its kind, or behind the last at the first of the next kind.
+fn behind(cursor: Cursor, due: Rule, counts: Counts) -> Cursor
+    requires { ⌜ Stepping cursor due counts ⌝ }
+    ensures { λ r. ⌜ r ≡ behindLine counts cursor ⌝ }
+{
+    let line = cursor.line + 1;
+    let pos = cursor.pos + (7 + 2 * due.width);
+    let at = cursor.at + due.width;
+    if 1 < cursor.left {
+        return Cursor {
+            kind: cursor.kind,
+            left: cursor.left - 1,
+            line: line,
+            pos: pos,
+            at: at,
+        };
+    }
+    let next = rule_of(due.next, counts);
+    Cursor {
+        kind: due.next,
+        left: next.lines,
+        line: line,
+        pos: pos,
+        at: at,
+    }
+}
+
+// The lines of kinds 02 to 06, to their places of the chart.
+fn read_rest(text: &[u8], counts: Counts, chart: &mut [u8]) -> Frames
+    requires { ⌜ RestIn (now text) counts (now chart) ⌝ }
+    ensures { λ r. ⌜ LinesSay (restLines (now (text .entry)) counts (now (chart .entry))) (now (chart .entry)) (now (chart .exit)) r ⌝ }
+{
+    let head = Cursor {
+        kind: 1,
+        left: 1,
+        line: 1,
+        pos: 0,
+        at: 0,
+    };
+    let mut cursor = behind(head, rule_of(1, counts), counts);
+    while 0 < cursor.left {
+        let pos = cursor.pos;
+        let at = cursor.at;
+        let kind = byte_at(text, pos);
+        if kind != cursor.kind {
+            return Frames::BadLine(cursor.line);
+        }
+        let due = rule_of(kind, counts);
+        if !read_frame(text, pos, kind, due.width, &mut chart[at..]) {
+            return Frames::BadLine(cursor.line);
+        }
+        cursor = behind(cursor, due, counts);
+    }
+    if cursor.pos < text.len() {
+        return Frames::BadLine(cursor.line);
+    }
+    Frames::Chart(cursor.at)
+}
+
+// All lines of a chart, to their places of the buffer.
+fn read_lines(text: &[u8], chart: &mut [u8]) -> Frames
+    requires { ⌜ chartMost ≤ length (now chart) ⌝ }
+    ensures { λ r. ⌜ LinesSay (linesOfText (now (text .entry))) (now (chart .entry)) (now (chart .exit)) r ⌝ }
+{
+    if TEXT_MOST < text.len() {
+        return Frames::BadLine(0);
+    }
+    // the head's rule does not go by the sizes, which it brings
+    let head = rule_of(1, Counts { k: 0, n: 0, m: 0 });
+    if !read_frame(text, 0, 1, head.width, chart) {
+        return Frames::BadLine(1);
+    }
+    let k = chart[0] as usize;
+    let e = chart[1] as usize;
+    let n = chart[2] as usize;
+    let m = chart[3] as usize;
+    if !sizes_fit(k, e, n, m) {
+        return Frames::BadHead;
+    }
+    read_rest(text, Counts { k: k, n: n, m: m }, chart)
+}
+
+// A chart that was read is checked last. Where it is refused, the buffer is not zeroed yet.
+fn read_whole(text: &[u8], chart: &mut [u8]) -> Written
+    requires { ⌜ chartMost ≤ length (now chart) ⌝ }
+    ensures { λ r. ⌜ _≡_ {A = Filled} (record { reply = writtenSaid r; buffer = zeroedBy r (now (chart .exit)) }) (linesRead (linesOfText (now (text .entry))) (now (chart .entry))) ⌝ }
+{
+    match read_lines(text, chart) {
+        Frames::BadLine(line) => Written::Refused(Refusal::Text { line: line }),
+        Frames::BadHead => Written::Refused(Refusal::Sizes),
+        Frames::Chart(size) => match check(&chart[..size]) {
+            Checked::Fine(shape) => Written::Bytes(shape.size),
+            Checked::Refused(why) => Written::Refused(why),
+        },
+    }
+}
+
+// A chart's text, to the bytes of the chart. Every refusal but that of a short buffer zeroes the buffer.
+pub fn read_chart(text: &[u8], chart: &mut [u8]) -> Written
+    ensures { λ r. ⌜ _≡_ {A = Filled} (record { reply = writtenSaid r; buffer = now (chart .exit) }) (readChart (now (text .entry)) (now (chart .entry))) ⌝ }
+{
+    if chart.len() < CHART_MOST {
+        return Written::Refused(Refusal::Room);
+    }
+    match read_whole(text, chart) {
+        Written::Bytes(size) => Written::Bytes(size),
+        Written::Refused(why) => {
+            zero(chart);
+            Written::Refused(why)
+        }
+    }
+}

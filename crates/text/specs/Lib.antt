@@ -1,4 +1,0 @@
-pub mod ChartText
-pub mod Lines
-pub mod Printing
-pub mod Reading

@@ -1,0 +1,4 @@
+pub mod ListLaws
+pub mod FrameBack
+pub mod TextBack
+pub mod TextRead
