@@ -103,6 +103,12 @@ impl Values for () {
     }
 }
 
+impl Values for Vec<usize> {
+    fn values(self) -> Vec<usize> {
+        self
+    }
+}
+
 impl Values for usize {
     fn values(self) -> Vec<usize> {
         vec![self]

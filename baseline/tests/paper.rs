@@ -2,6 +2,7 @@
 
 mod common;
 
+use baseline::cases::by_hand::{E_SHEET, E_TABLE};
 use baseline::programs::{answer, Build};
 use baseline::{
     brzozowski, cap, check, check_sheet, combine, grade_word, nerode, read_chart, reduced, row_times, vector_at, Chart,
@@ -32,12 +33,6 @@ const E_TABLE_TEXT: &str = "\
 1200050000020002
 13000101
 ";
-
-/// E's smallest table as bytes.
-const E_TABLE: [u8; 15] = [0, 0, 1, 0, 2, 1, 0, 1, 0, 1, 0, 0, 2, 0, 2];
-
-/// E's sheet, P9.
-const E_SHEET: [u8; 24] = [0, 0, 2, 0, 0, 1, 2, 1, 0, 2, 1, 0, 0, 1, 1, 1, 0, 2, 0, 0, 0, 1, 0, 1];
 
 fn e_chart() -> Vec<u8> {
     let mut chart = vec![0; 9780];

@@ -1,5 +1,7 @@
-//! Times the proved chart check, row product and builders beside the same work in plain Rust, on the same charts, in one run. Prints
+//! Times the proved chart check, row product, builders and sheet check beside the same work in plain Rust, on the same charts, in one run. Prints
 //! nanoseconds a call (the median of some runs) and the ratio.
+
+mod sheets;
 
 use baseline::cases::{grades, tight, Drawing, Rng};
 use baseline::{brzozowski, check, nerode, reduced, row_times, Chart, Grades};
@@ -42,7 +44,7 @@ fn median(turns: usize, mut run: impl FnMut()) -> f64 {
 }
 
 fn report(what: &str, proved: f64, plain: f64) -> f64 {
-    println!("{what:<46} proved {proved:>10.0} ns   plain {plain:>10.0} ns   ratio {:.2}", proved / plain);
+    println!("{what:<62} proved {proved:>10.0} ns   plain {plain:>10.0} ns   ratio {:.2}", proved / plain);
     proved / plain
 }
 
@@ -181,5 +183,7 @@ fn main() {
         let ratios: Vec<f64> = charts.iter().map(|(name, chart)| build_ratio(&format!("{what} {name}"), build, chart)).collect();
         println!("geometric mean: {what} {:.2}", geometric_mean(&ratios));
     }
+    let ratios: Vec<f64> = sheets::samples().iter().map(|(name, made)| sheets::ratio(name, made)).collect();
+    println!("geometric mean: sheet {:.2}", geometric_mean(&ratios));
     println!("geometric means: check {:.2}, row times matrix {:.2}", geometric_mean(&checks), geometric_mean(&rows));
 }

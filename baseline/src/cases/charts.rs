@@ -3,7 +3,10 @@
 use super::drawing::Drawing;
 use super::grades::{self, GradeTables};
 use super::rng::Rng;
+use super::stored::Stored;
 use super::Expected;
+use crate::chart::{check, Shape};
+use crate::refusal::Reply;
 
 /// What is wrong with a chart's bytes.
 #[derive(Clone, Copy, Debug, PartialEq, Eq)]
@@ -46,6 +49,22 @@ pub struct ChartCase {
     pub name: String,
     pub bytes: Vec<u8>,
     pub expected: Expected,
+}
+
+impl ChartCase {
+    /// The chart, and what its check answers.
+    pub fn store(&self, stored: &mut Stored) {
+        stored.part(&self.bytes);
+        stored.reply(&Reply::from(check(&self.bytes).map(laid_out)));
+    }
+}
+
+/// What the test program prints of a sound chart: its sizes, its letters, where its parts begin, and how many bytes it has.
+fn laid_out(shape: Shape) -> Vec<usize> {
+    let Shape { k, e, n, m } = shape;
+    let start = 4 + 2 * k * k;
+    let matrix = start + 2 * n;
+    vec![k, e, n, m, m, 4, 4 + k * k, start, start + n, matrix, matrix + m * n * n]
 }
 
 /// The chart case of this number; every second one is sound.

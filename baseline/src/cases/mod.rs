@@ -1,18 +1,27 @@
-//! Test charts and texts worked out from a seed, each with what the paper says of it by the way it was made.
+//! Test charts, texts, tables and sheets worked out from a seed, each with what the paper says of it by the way it was made.
 
+pub mod by_hand;
 pub mod charts;
 pub mod drawing;
 pub mod grades;
+pub mod house;
 pub mod pairs;
 pub mod rng;
+pub mod sheets;
+pub mod stored;
+pub mod tables;
 pub mod texts;
 pub mod tight;
 
 pub use charts::{chart_case, ChartCase, ChartFault};
 pub use drawing::Drawing;
 pub use grades::GradeTables;
+pub use house::House;
 pub use pairs::reached_pairs;
 pub use rng::Rng;
+pub use sheets::{sheet_case, SheetCase, SheetFault};
+pub use stored::Stored;
+pub use tables::{table_case, TableCase, TableFault};
 pub use texts::{text_case, TextCase, TextFault};
 
 /// What is known of a case by the way it was made.

@@ -3,7 +3,9 @@
 use super::charts::{drawing_with, ChartFault};
 use super::drawing::Drawing;
 use super::rng::Rng;
+use super::stored::Stored;
 use super::{tight, Expected};
+use crate::programs::{answer, Build};
 use crate::text::LONGEST_TEXT;
 
 /// What is wrong with a chart's text.
@@ -64,6 +66,16 @@ pub struct TextCase {
     pub name: String,
     pub text: Vec<u8>,
     pub expected: Expected,
+}
+
+impl TextCase {
+    /// The text, and what the three programs print for it.
+    pub fn store(&self, stored: &mut Stored) {
+        stored.part(&self.text);
+        for build in [Build::Nerode, Build::Reduced, Build::Brzozowski] {
+            stored.text(&answer(build, &self.text));
+        }
+    }
 }
 
 /// The text case of this number; two of three are sound.

@@ -56,6 +56,23 @@ pub fn remembering(grades: GradeTables, back: usize, apart: bool) -> Drawing {
     drawing
 }
 
+/// A register of a word's last `back` letters, each by whether its number is odd, in the last places of n; every place before it holds the unit.
+/// So there are two to the power `back` vectors, alike but in those places. A word's grade says whether letter number `seen` from its
+/// end, from 1, is odd.
+pub fn register(grades: GradeTables, [n, m]: [usize; 2], back: usize, seen: usize) -> Drawing {
+    let mut drawing = blank(grades, n, m);
+    let held = n - back;
+    for letter in 0..m {
+        (0..held).for_each(|p| drawing.put(letter, p, p));
+        (held + 1..n).for_each(|q| drawing.put(letter, q - 1, q));
+        if letter % 2 == 1 {
+            drawing.put(letter, held - 1, held);
+        }
+    }
+    (0..held).for_each(|p| drawing.mark(p, held + seen - 1));
+    drawing
+}
+
 fn blank(mut grades: GradeTables, n: usize, m: usize) -> Drawing {
     grades.name = format!("tight-{}", grades.name);
     Drawing { grades, n, m, start: vec![0; n], end: vec![0; n], matrices: vec![0; m * n * n] }

@@ -1,4 +1,4 @@
-// For measuring: the chart check, the row product and the builders as calls that a program in Rust can time. Nothing here is promised.
+// For measuring: the chart check, the row product, the builders and the sheet check as calls that a program in Rust can time. Nothing here is promised.
 ghost use mathlib.Core.Path.{_≡_};
 ghost use mathlib.Core.Bool.{true};
 ghost use Prim.Native.Nat.{_<_, _≤_};
@@ -9,6 +9,7 @@ use paper::Built;
 use paper::BuiltBoth;
 use paper::Checked;
 use paper::Shape;
+use paper::Verdict;
 
 // The number of the refusal, or 0.
 #[no_mangle]
@@ -121,5 +122,21 @@ pub extern "C" fn yard_brzozowski(
     ) {
         BuiltBoth::States(count, _) => count,
         BuiltBoth::Refused(_) => 0,
+    }
+}
+
+// The number of the refusal, or 0.
+#[no_mangle]
+pub extern "C" fn yard_check_sheet(
+    chart: &[u8],
+    rows: &[u8],
+    count: usize,
+    m: usize,
+    sheet: &[u8],
+    lines: usize,
+) -> u8 {
+    match sheets::check_sheet(chart, rows, count, m, sheet, lines) {
+        Verdict::Accepted => 0,
+        Verdict::Refused(why) => paper::number(why),
     }
 }
