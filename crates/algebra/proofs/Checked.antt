@@ -1,5 +1,5 @@
 -- What a chart that is not refused satisfies: its sizes, its grades' range, and the laws of its grade tables. Assumes nothing.
-use mathlib.Core.Path.{_≡_, _∙_, subst}
+use mathlib.Core.Path.{_≡_, subst}
 use mathlib.Core.Bool.{true}
 use mathlib.Core.List.{List}
 use Prim.Native.Nat.{ℕ, _+_, _-_, _*_, _≤_, _<_}
@@ -59,9 +59,6 @@ module _ (c : List ℕ) where
   fits-lawful e =
       unless-passed (λ (r : Reply). r .0 ≡ 0) (eqb (brokenLaw c) 8) (4, brokenAt c (brokenLaw c)) (fine (shapeOf c)) (omega arith)
       (rw (ranged-reply (fits-ranged e)) at (fits-number e)) .0
-
-  pub fits-reply : chartFits c ≡ true → checkReply c ≡ fine (shapeOf c)
-  fits-reply e = ranged-reply (fits-ranged e) ∙ rw (fits-lawful e)
 
   -- an answer of a call that checks the chart first, where nothing is refused
   pub check-passed : (rest : Reply) → unless (chartFits c) (checkReply c) rest .0 ≡ 0 → (chartFits c ≡ true) × (rest .0 ≡ 0)

@@ -14,7 +14,6 @@ use Rattle.paper.specs.Tables.{stateOf, tableGrade, tableFits}
 use Rattle.numbering.proofs.Words.{word-append, word-reverse}
 use Rattle.numbering.proofs.Pigeonhole.{pigeonhole}
 use Rattle.numbering.proofs.TableFits.{table-facts, state-low}
-use Rattle.algebra.proofs.ListLaws.{differ-at}
 use Rattle.algebra.proofs.Checked.{Sound}
 use Rattle.algebra.proofs.Words.{Reverses, length-vectorRow, vectorRow-at, row-of-word, continued}
 use Rattle.algebra.proofs.Tables.{one-state}
@@ -40,16 +39,7 @@ module _ (c : List ℕ) (ok : Sound c) (fs : List (List ℕ)) (rev : Reverses c 
   within : (u : List ℕ) → Word (letters c) u → (i : ℕ) → i < length (wordRow c fs u) → i < length fs
   within u hu i h = rw (size u hu) at h
 
-  -- words of different rows are told apart by some continuation
-  pub rows-differ : (u w : List ℕ) → Word (letters c) u → Word (letters c) w → (wordRow c fs u ≡ wordRow c fs w → ⊥) →
-      (t : List ℕ) × (Word (letters c) t × (gradeOf c (u ++ t) ≡ gradeOf c (w ++ t) → ⊥))
-  rows-differ u w hu hw differ =
-      let d = differ-at (wordRow c fs u) (wordRow c fs w) (size u hu ∙ sym (size w hw)) differ in
-      let l = within u hu (d .0) (d .1 .0) in
-      let r = rev .reached (d .0) l in
-      (reverse (r .0), (word-reverse (letters c) (r .0) (r .1 .0), λ e. d .1 .1 (entry-grade u hu (d .0) l ∙ e ∙ sym (entry-grade w hw (d .0) l))))
-
-  -- so words that none tells apart have one row
+  -- words that none tells apart have one row
   pub alike-rows : (u w : List ℕ) → Word (letters c) u → Word (letters c) w → ((t : List ℕ) → Word (letters c) t → gradeOf c (u ++ t) ≡ gradeOf c (w ++ t)) →
       wordRow c fs u ≡ wordRow c fs w
   alike-rows u w hu hw alike = ext-getD 0 (wordRow c fs u) (wordRow c fs w) (size u hu ∙ sym (size w hw)) (λ i h. at i (within u hu i h))

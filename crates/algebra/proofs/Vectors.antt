@@ -58,10 +58,6 @@ module _ (c : List ℕ) where
   unfolding vectorOf
   vector-with u x = after-with (rowTimes c) (startVec c) u x
 
-  pub length-reverse : (u : List ℕ) → length (reverseOf c u) ≡ nOf c
-  unfolding reverseOf
-  length-reverse u = length-after (timesCol c) length-col u (endVec c) length-end
-
 module _ (c : List ℕ) (ok : Sound c) where
   -- ---- entries are grades
 

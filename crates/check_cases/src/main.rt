@@ -1,6 +1,4 @@
 // Checks the charts on standard input, stored as `cases` says, and prints a line for each: the answer's number and values.
-ghost use Prim.Native.Nat.{_≤_};
-ghost use lib.ListN.{length};
 use paper::Checked;
 use paper::Shape;
 

@@ -8,7 +8,7 @@ use native.Mathlib.Omega.{arith}
 use lib.ListN.{length, getD, set, List·getD-eq-default}
 use borrow.Author.Tests.{lt-ltb, le-ltb, eq-eqb, ne-eqb, ltb-true, eqb-true}
 use Rattle.paper.specs.Lists.{both, allBelow, inFront}
-use Rattle.paper.specs.Frames.{digitOf, byteAt, digitFits, digitsLength, lineLength, newline, payloadAt, payload, frameFits}
+use Rattle.pages.specs.Frames.{digitOf, byteAt, digitFits, digitsLength, lineLength, newline, payloadAt, payload, frameFits}
 use Rattle.lists.proofs.Tests.{both-left, both-right, both-false, all-at, all-fails, all-more}
 use Rattle.lists.proofs.ByPlace.{length-tabulate, getD-tabulate}
 use Rattle.lists.proofs.Bound.{le-or-lt}

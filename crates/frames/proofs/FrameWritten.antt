@@ -8,7 +8,7 @@ use lib.ListN.{length, getD, set, length-append, List·getD-append}
 use lib.Seq.{getD-at}
 use Rattle.paper.specs.Lists.{inFront}
 use Rattle.paper.specs.Tables.{twoBytes}
-use Rattle.paper.specs.Frames.{hexOf, hexed, framed, frame, newline, digitsLength, lineLength}
+use Rattle.pages.specs.Frames.{hexOf, hexed, framed, frame, newline, digitsLength, lineLength}
 use Rattle.frames.specs.Lines.{LineIn}
 use Rattle.lists.proofs.Front.{begun, begun-more, begun-all}
 

@@ -6,7 +6,7 @@ use native.Mathlib.Omega.{arith}
 use lib.ListN.{getD}
 use borrow.Author.Tests.{le-leb, lt-leb}
 use Rattle.paper.specs.Lists.{both}
-use Rattle.paper.specs.Frames.{digitOf, byteAt}
+use Rattle.pages.specs.Frames.{digitOf, byteAt}
 
 -- the bytes that are digits
 pub digit-low : (b : ℕ) → 48 ≤ b → b ≤ 57 → (b - 48 ≡ digitOf b) × (b - 48 ≤ 16)

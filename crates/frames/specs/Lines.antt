@@ -5,7 +5,7 @@ use mathlib.Core.List.{List}
 use Prim.Native.Nat.{ℕ, _≤_, _<_}
 use lib.ListN.{length}
 use Rattle.paper.specs.Lists.{allBelow}
-use Rattle.paper.specs.Frames.{digitsLength, digitFits, lineLength}
+use Rattle.pages.specs.Frames.{digitsLength, digitFits, lineLength}
 
 -- a place of a text, and a payload's length, so small that no place in the line is past the largest number
 pub record Near (pos w : ℕ) : Type 0 where

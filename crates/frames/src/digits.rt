@@ -2,7 +2,7 @@
 ghost use mathlib.Core.Path.{_≡_};
 ghost use Prim.Native.Nat.{_<_, _≤_};
 ghost use lib.ListN.{getD};
-ghost use Rattle.paper.specs.Frames.{hexOf, digitOf, byteAt};
+ghost use Rattle.pages.specs.Frames.{hexOf, digitOf, byteAt};
 
 // The digit of a number below 16.
 pub fn hex(n: u8) -> u8

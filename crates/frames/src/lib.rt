@@ -9,7 +9,7 @@ ghost use mathlib.Core.Path.{_≡_};
 ghost use Prim.Native.Nat.{_+_, _/_, _%_, _<_};
 ghost use lib.ListN.{length, getD, set};
 ghost use Rattle.paper.specs.Lists.{pick, allBelow, inFront};
-ghost use Rattle.paper.specs.Frames.{hexOf, digitFits, frameFits, payload, framed, frame};
+ghost use Rattle.pages.specs.Frames.{hexOf, digitFits, frameFits, payload, framed, frame};
 ghost use Rattle.frames.specs.Lines.{FrameIn, PayloadIn, LineIn, Near};
 
 // Whether the n bytes from pos on are digits.

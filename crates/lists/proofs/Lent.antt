@@ -6,7 +6,7 @@ use native.Mathlib.Numerals.{add-one}
 use native.Mathlib.Omega.{arith}
 use lib.ListN.{length, getD, drop, set, replicate, length-append, length-drop, drop-of-length-le, List·getD-append}
 use native.Mathlib.Decide.{decLt}
-use lib.Seq.{ext-getD, set-at, drop-at, drop-cons, getD-drop, getD-append-add}
+use lib.Seq.{ext-getD, set-at, drop-cons, getD-drop, getD-append-add}
 use borrow.Author.Fill.{fill-more}
 use Rattle.paper.specs.Lists.{tabulate, inFront, zeros}
 use Rattle.lists.proofs.ByPlace.{length-tabulate, getD-tabulate}

@@ -5,7 +5,7 @@ use mathlib.Core.List.{List, [], _∷_}
 use Prim.Native.Nat.{ℕ, _≤_, _<_, zero-le}
 use native.Mathlib.Omega.{arith}
 use native.Mathlib.Decide.{decLt}
-use lib.ListN.{length, length-append}
+use lib.ListN.{length-append}
 use Rattle.paper.specs.Words.{LexBefore, Before, UpTo}
 use Rattle.numbering.proofs.Words.{with}
 

@@ -234,9 +234,3 @@ module _ (key : List ℕ → List ℕ) (step : ℕ → List ℕ → List ℕ) (m
       (states key step m room v)
       a
       (states-numbered key step m room v cong (omega (arith, states-at-most room vs a)))
-
-  -- more room for states that fit changes nothing
-  pub states-room : Congruence key step m → (room more : ℕ) → length (states key step m room v) ≤ room → room ≤ more →
-      states key step m room v ≡ states key step m more v
-  states-room cong room more fits l =
-      states-unique cong more (states key step m room v) (states-numbered key step m room v cong fits) (omega arith)

@@ -44,10 +44,6 @@ module _ (m : ℕ) where
   word-at (x ∷ u) w zero h = w .0
   word-at (x ∷ u) w (suc i) h = word-at u (w .1) i (omega arith)
 
-  pub word-of : (u : List ℕ) → ((i : ℕ) → i < length u → getD u i 0 < m) → Word m u
-  word-of [] h = tt
-  word-of (x ∷ u) h = (h 0 (omega arith), word-of u (λ i l. h (suc i) (omega arith)))
-
 module _ {ℓ} {X : Type ℓ} (step : ℕ → X → X) where
   -- a word goes on from where the one before it leads
   pub after-append : (v : X) (u t : List ℕ) → after step v (u ++ t) ≡ after step (after step v u) t

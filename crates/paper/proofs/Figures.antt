@@ -1,4 +1,4 @@
--- P1 to P13, and E's text, as document 01 states them, and the further cases: each one computation against the definitions. Assumes nothing.
+-- P1 to P13 as document 01 states them, and the further cases: each one computation against the definitions. Assumes nothing.
 use mathlib.Core.Path.{_≡_, refl}
 use Rattle.paper.specs.Lists.{both, allBelow, leastFail, tabulate, joined, part, sameList, inFront}
 use Rattle.paper.specs.Words.{after}
@@ -10,13 +10,10 @@ use Rattle.paper.specs.Tables.{twoBytes, sizeFits, nextFits, rowFits, ta
 use Rattle.paper.specs.Constructions.{statesOf, nextBytes, rowOf, stateRow, tableOf, letterKey, reducedKey, reverseStates, firstRowAt, firstRow, rowAfterAt, rowAfter, rowGrade, rowStates}
 use Rattle.paper.specs.Builders.{placeOf, placed, vectorAt, roomFits, forwardRoom, forwardBuilt, forward, nerode, reduced, allZeros, backwardRoom, backwardBuilt, brzozowski}
 use Rattle.paper.specs.Sheets.{lineAt, lineState, lineVector, lineGradeFits, lineFits, sheetFits, otherPair, onSheet, gradeHolds, nextHolds, lineHolds, badLine, lineReply, sheetReply}
-use Rattle.paper.specs.Frames.{hexed, framed, frame, digitOf, byteAt, digitFits, frameFits, payloadAt, payload}
-use Rattle.paper.specs.Texts.{linesOf, widthOf, duesFrom, dues, linesFrom, linesAfter, linesOfText, chartRead, linesRead, readChart, printed, rowLine, tableText, printTable, refusalText, printRefusal}
-use Rattle.paper.specs.Programs.{orRefusal, builtText, forwardText, backwardText, readText, program, nerodeMakes, reducedMakes, brzMakes}
-use Rattle.paper.specs.Figures.{bytesOf, lines, chartE, textE, printedE, tableE, sheetE, chart32, chart2, chart13, reply, nerodeIn, reducedIn, brzIn, count, worked, stated}
+use Rattle.paper.specs.Figures.{chartE, tableE, sheetE, chart32, chart2, chart13, reply, nerodeIn, reducedIn, brzIn, count, worked, stated}
 use Rattle.paper.specs.SampleCharts.{bare, larger, largerOfFour, brokenTables, brokenDue, shortCharts, orderE, oneSided, oneSidedWords, chartsTried, chartsDue}
 use Rattle.paper.specs.SampleBuilds.{nines, forwardLeft, backwardLeft, forwards, nerodeE, vectorsE, forwardsDue, toldByGrade, toldByLast, apart, apartDue, wordsE, wordsDue, lentE, backwards, backwardsDue, buildsTried, buildsDue}
-use Rattle.paper.specs.SampleWalks.{steps, stepsDue, grades, gradesDue, sheets, filled, linesInTwo, text13, readings, readingsDue, printings, printedNerodeE, printingsDue, walksTried, walksDue}
+use Rattle.paper.specs.SampleWalks.{steps, stepsDue, grades, gradesDue, sheets, walksTried, walksDue}
 
 -- what opens the definitions of each file, for the computations below
 of-lists : Unit {0}
@@ -59,20 +56,8 @@ of-sheets : Unit {0}
 unfolding lineAt lineState lineVector lineGradeFits lineFits sheetFits otherPair onSheet gradeHolds nextHolds lineHolds badLine lineReply sheetReply
 of-sheets = tt
 
-of-frames : Unit {0}
-unfolding hexed framed frame digitOf byteAt digitFits frameFits payloadAt payload
-of-frames = tt
-
-of-texts : Unit {0}
-unfolding linesOf widthOf duesFrom dues linesFrom linesAfter linesOfText chartRead linesRead readChart printed rowLine tableText printTable refusalText printRefusal
-of-texts = tt
-
-of-programs : Unit {0}
-unfolding orRefusal builtText forwardText backwardText readText program nerodeMakes reducedMakes brzMakes
-of-programs = tt
-
 of-figures : Unit {0}
-unfolding bytesOf lines chartE textE printedE tableE sheetE chart32 chart2 chart13 reply nerodeIn reducedIn brzIn count worked stated
+unfolding chartE tableE sheetE chart32 chart2 chart13 reply nerodeIn reducedIn brzIn count worked stated
 of-figures = tt
 
 of-sample-charts : Unit {0}
@@ -84,11 +69,12 @@ unfolding nines forwardLeft backwardLeft forwards nerodeE vectorsE forwardsDue t
 of-sample-builds = tt
 
 of-sample-walks : Unit {0}
-unfolding steps stepsDue grades gradesDue sheets filled linesInTwo text13 readings readingsDue printings printedNerodeE printingsDue walksTried walksDue
+unfolding steps stepsDue grades gradesDue sheets walksTried walksDue
 of-sample-walks = tt
 
-definitions : Unit {0}
-unfolding of-lists of-words of-chart of-check of-vectors of-numbering of-tables of-constructions of-builders of-sheets of-frames of-texts of-programs of-figures of-sample-charts of-sample-builds of-sample-walks
+-- pages/ opens them too
+unfoldable pub definitions : Unit {0}
+unfolding of-lists of-words of-chart of-check of-vectors of-numbering of-tables of-constructions of-builders of-sheets of-figures of-sample-charts of-sample-builds of-sample-walks
 definitions = tt
 
 pub figures : worked ≡ stated

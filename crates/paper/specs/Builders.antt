@@ -128,3 +128,14 @@ brzozowski c room reverse l =
     (pick (ltb reverse (length (reverseStates c reverse)))
     (record { reply = (6, []); left = allZeros l })
     (backwardBuilt c room reverse (reverseStates c reverse) (rowStates c (reverseStates c reverse) room) l)))
+
+-- ---- memory of zeros that is enough for charts of up to 16 letters and 24 states
+
+abbrev pub blank : ℕ → List ℕ
+blank n = replicate n 0
+
+abbrev pub blankTable : ℕ → List ℕ
+blankTable room = blank (room * rowSize 16)
+
+abbrev pub blankVectors : ℕ → List ℕ
+blankVectors room = blank (suc room * 24)

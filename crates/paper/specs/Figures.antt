@@ -1,28 +1,16 @@
 -- The paper's figures P1 to P13 as one table: what each comes to by the definitions, beside what document 01 says.
-use mathlib.Core.List.{List, [], _∷_, _++_, map}
+use mathlib.Core.List.{List, [], _∷_, map}
 use Prim.Native.Nat.{ℕ, suc, _*_}
-use Prim.Native.Char.{code}
-use Prim.Native.String.{String}
-use lib.ListN.{length, getD, take, set}
+use lib.ListN.{getD, take, set}
 use Rattle.paper.specs.Replies.{Reply}
 use Rattle.paper.specs.Chart.{startVec}
 use Rattle.paper.specs.Check.{checkReply}
 use Rattle.paper.specs.Vectors.{rowTimes, gradeOf}
 use Rattle.paper.specs.Constructions.{reverseStates}
-use Rattle.paper.specs.Builders.{nerode, reduced, brzozowski}
+use Rattle.paper.specs.Builders.{nerode, reduced, brzozowski, blank, blankTable, blankVectors}
 use Rattle.paper.specs.Sheets.{sheetReply}
-use Rattle.paper.specs.Programs.{blank, blankTable, blankVectors, program, brzMakes}
 
 -- ---- the charts
-
--- a line of text, and lines
-unfoldable pub bytesOf : String → List ℕ
-bytesOf String.[] = []
-bytesOf (String._∷_ c s) = code c ∷ bytesOf s
-
-unfoldable pub lines : List String → List ℕ
-lines [] = []
-lines (s ∷ rest) = bytesOf s ++ (10 ∷ lines rest)
 
 unfoldable pub chartE : List ℕ
 chartE =
@@ -32,20 +20,7 @@ chartE =
     ∷ 2 ∷ 0 ∷ 0 ∷ 2
     ∷ 2 ∷ 1 ∷ 0 ∷ 2 ∷ 1 ∷ 0 ∷ 0 ∷ 2 ∷ []
 
-unfoldable pub textE : List ℕ
-textE =
-    lines
-    ("01000403020202"
-    ∷ "020003000102" ∷ "020003010102" ∷ "020003020202"
-    ∷ "030003000000" ∷ "030003000001" ∷ "030003000102"
-    ∷ "0400020200" ∷ "0500020002"
-    ∷ "0600020201" ∷ "0600020002" ∷ "0600020100" ∷ "0600020002"
-    ∷ [])
-
-unfoldable pub printedE : List ℕ
-printedE = lines ("110003000302" ∷ "1200050000010002" ∷ "1200050100010001" ∷ "1200050000020002" ∷ "13000101" ∷ [])
-
--- the rows of that table
+-- the rows of its Brzozowski table
 unfoldable pub tableE : List ℕ
 tableE = 0 ∷ 0 ∷ 1 ∷ 0 ∷ 2 ∷ 1 ∷ 0 ∷ 1 ∷ 0 ∷ 1 ∷ 0 ∷ 0 ∷ 2 ∷ 0 ∷ 2 ∷ []
 
@@ -121,10 +96,9 @@ worked =
     ∷ (reply (sheetReply chartE tableE 3 2 [] 0) ∷ [])
     ∷ (reply (sheetReply chartE (set tableE 5 0) 3 2 sheetE 6) ∷ [])
     ∷ (reply (checkReply chart13) ∷ [])
-    ∷ ((length textE ∷ []) ∷ program brzMakes textE ∷ (length printedE ∷ []) ∷ [])
     ∷ []
 
--- P1 to P13, and E's text
+-- P1 to P13
 unfoldable pub stated : List (List (List ℕ))
 stated =
     ((2 ∷ 1 ∷ []) ∷ [])
@@ -140,5 +114,4 @@ stated =
     ∷ ((11 ∷ []) ∷ [])
     ∷ ((12 ∷ 1 ∷ []) ∷ [])
     ∷ ((4 ∷ 6 ∷ 1 ∷ 0 ∷ 0 ∷ []) ∷ [])
-    ∷ ((159 ∷ []) ∷ printedE ∷ (73 ∷ []) ∷ [])
     ∷ []

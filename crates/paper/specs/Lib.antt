@@ -9,9 +9,6 @@ pub mod Tables
 pub mod Constructions
 pub mod Builders
 pub mod Sheets
-pub mod Frames
-pub mod Texts
-pub mod Programs
 pub mod Figures
 pub mod SampleCharts
 pub mod SampleBuilds

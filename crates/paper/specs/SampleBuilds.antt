@@ -5,8 +5,7 @@ use lib.ListN.{take, replicate}
 use Rattle.paper.specs.Chart.{letters, startVec}
 use Rattle.paper.specs.Vectors.{rowTimes}
 use Rattle.paper.specs.Numbering.{itself, firstWords}
-use Rattle.paper.specs.Builders.{Forward, Lent, Backward, nerode, reduced, brzozowski, vectorAt}
-use Rattle.paper.specs.Programs.{blank}
+use Rattle.paper.specs.Builders.{Forward, Lent, Backward, nerode, reduced, brzozowski, vectorAt, blank}
 use Rattle.paper.specs.Figures.{chartE, tableE, reply}
 use Rattle.paper.specs.SampleCharts.{larger}
 

@@ -10,8 +10,8 @@ use borrow.Author.Tests.{le-leb, lt-leb}
 use borrow.Rule.Slice.PartMut.{midOf, putMid}
 use Rattle.paper.specs.Lists.{joined, part, inFront}
 use Rattle.paper.specs.Tables.{rowSize}
-use Rattle.paper.specs.Frames.{frame, lineLength}
-use Rattle.paper.specs.Texts.{Filled, printed, rowLine, refusalText, printRefusal}
+use Rattle.pages.specs.Frames.{frame, lineLength}
+use Rattle.pages.specs.Texts.{Filled, printed, rowLine, refusalText, printRefusal}
 use Rattle.lists.proofs.ByPlace.{length-joined, length-part}
 use Rattle.lists.proofs.Bound.{row-end}
 use Rattle.frames.specs.Lines.{LineIn}

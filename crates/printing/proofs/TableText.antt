@@ -15,8 +15,8 @@ use Rattle.paper.specs.Lists.{joined, inFront}
 use Rattle.paper.specs.Replies.{said, checkedSaid}
 use Rattle.paper.specs.Check.{checkReply}
 use Rattle.paper.specs.Tables.{twoBytes, rowSize, tableFitsChart, capOf}
-use Rattle.paper.specs.Frames.{frame, lineLength}
-use Rattle.paper.specs.Texts.{Filled, printed, rowLine, tableText, tableTextSize, printTable}
+use Rattle.pages.specs.Frames.{frame, lineLength}
+use Rattle.pages.specs.Texts.{Filled, printed, rowLine, tableText, tableTextSize, printTable}
 use Rattle.chart.proofs.Checked.{shaped, fits-fine, fits-refused}
 use Rattle.tables.proofs.Rows.{size-parts}
 use Rattle.card.proofs.Caps.{size-beside}

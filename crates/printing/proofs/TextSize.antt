@@ -6,7 +6,7 @@ use native.Mathlib.Nat.{zero-mul, mul-comm, mul-le-mul-left, le-div-iff-mul-le, 
 use native.Mathlib.Omega.{arith}
 use lib.Dec.{leb}
 use borrow.Author.Tests.{le-leb, lt-leb, leb-true, leb-false}
-use Rattle.paper.specs.Texts.{tableTextSize}
+use Rattle.pages.specs.Texts.{tableTextSize}
 
 module _ (count m room : ℕ) where
   -- no room for the first and the last line

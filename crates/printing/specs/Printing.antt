@@ -4,9 +4,9 @@ use mathlib.Core.List.{List}
 use Prim.Native.Nat.{ℕ, _*_, _≤_}
 use lib.ListN.{length}
 use Rattle.paper.specs.Tables.{rowSize}
-use Rattle.paper.specs.Frames.{lineLength}
+use Rattle.pages.specs.Frames.{lineLength}
 use Rattle.paper.specs.Lists.{inFront}
-use Rattle.paper.specs.Texts.{tableTextSize}
+use Rattle.pages.specs.Texts.{tableTextSize}
 use Rattle.paper.specs.declared.Shape.{Shape}
 use Rattle.card.specs.Capped.{Beside}
 

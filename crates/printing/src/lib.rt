@@ -11,7 +11,7 @@ ghost use mathlib.Core.Path.{_≡_};
 ghost use lib.Dec.{leb};
 ghost use Rattle.paper.specs.Lists.{joined, inFront};
 ghost use Rattle.paper.specs.Replies.{writtenSaid};
-ghost use Rattle.paper.specs.Texts.{Filled, printRefusal, rowLine, tableText, tableTextSize, printTable};
+ghost use Rattle.pages.specs.Texts.{Filled, printRefusal, rowLine, tableText, tableTextSize, printTable};
 ghost use Rattle.printing.specs.Printing.{RowsIn, TableIn, TablePut};
 
 // A line with one byte of payload, which a refusal's number and the cap are, has so many bytes.

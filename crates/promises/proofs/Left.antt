@@ -1,8 +1,8 @@
 -- What the builders leave, by their contracts, grades every word as the chart does. Assumes nothing.
-use mathlib.Core.Path.{_≡_, sym, ap, subst}
+use mathlib.Core.Path.{sym, ap, subst}
 use mathlib.Core.List.{List}
 use Prim.Native.Nat.{ℕ, _≤_}
-use Rattle.paper.specs.Builders.{Forward, Backward, nerode, reduced, brzozowski}
+use Rattle.paper.specs.Builders.{Forward, Backward, nerode, reduced}
 use Rattle.paper.specs.Constructions.{Construction, nerodeBy, reducedBy}
 use Rattle.promises.specs.Faithful.{answered, SameVector, SameAfterLetters}
 use Rattle.promises.specs.Demands.{Builder, ForwardFaithful}

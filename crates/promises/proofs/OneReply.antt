@@ -7,7 +7,7 @@ use Rattle.paper.specs.Check.{checkReply}
 use Rattle.paper.specs.Tables.{tableReply, stepReply, gradeReply, wordReply, capReply, stateAfter, stepCode, gradeCode}
 use Rattle.paper.specs.Builders.{vectorAt, Forward, nerode, reduced, Lent, Backward, brzozowski}
 use Rattle.paper.specs.Sheets.{sheetReply}
-use Rattle.paper.specs.Texts.{Filled, readChart, printTable, printRefusal}
+use Rattle.pages.specs.Texts.{Filled, readChart, printTable, printRefusal}
 use Rattle.paper.proofs.Said.{checked-one, verdict-one, built-one, both-one, stepped-one, graded-one, written-one}
 use Rattle.promises.specs.OneReply.{OneReply, forwardSays, backwardSays, filledSays, readerSays, itSays}
 

@@ -4,7 +4,7 @@ use mathlib.Core.List.{List}
 use Prim.Native.Nat.{ℕ}
 use Rattle.paper.specs.Replies.{Reply, builtSaid, bothSaid, steppedSaid, writtenSaid}
 use Rattle.paper.specs.Builders.{Forward, Lent, Backward}
-use Rattle.paper.specs.Texts.{Filled}
+use Rattle.pages.specs.Texts.{Filled}
 use Rattle.paper.specs.declared.Built.{Built}
 use Rattle.paper.specs.declared.BuiltBoth.{BuiltBoth}
 use Rattle.paper.specs.declared.Stepped.{Stepped}

@@ -12,8 +12,8 @@ use lib.ListN.{replicate}
 use borrow.Author.Tests.{le-leb, lt-leb, le-ltb, lt-ltb}
 use Rattle.paper.specs.Lists.{pick}
 use Rattle.paper.specs.Chart.{headSize}
-use Rattle.paper.specs.Frames.{lineLength}
-use Rattle.paper.specs.Texts.{linesOf, widthOf, duesFrom, chartMost}
+use Rattle.pages.specs.Frames.{lineLength}
+use Rattle.pages.specs.Texts.{linesOf, widthOf, duesFrom, chartMost}
 use Rattle.lists.proofs.Bound.{product}
 use Rattle.reading.specs.declared.Counts.{Counts}
 use Rattle.reading.specs.declared.Rule.{Rule}

@@ -13,8 +13,8 @@ use borrow.Author.Tests.{le-leb, lt-leb, ltb-true, ltb-false}
 use borrow.Rule.Slice.PartMut.{midOf, putMid}
 use Rattle.paper.specs.Lists.{pick, inFront}
 use Rattle.paper.specs.Chart.{headSize}
-use Rattle.paper.specs.Frames.{byteAt, lineLength, payload, frameFits}
-use Rattle.paper.specs.Texts.{Lines, badLine, linesOf, widthOf, duesFrom, linesFrom, chartMost}
+use Rattle.pages.specs.Frames.{byteAt, lineLength, payload, frameFits}
+use Rattle.pages.specs.Texts.{Lines, badLine, linesOf, widthOf, duesFrom, linesFrom, chartMost}
 use Rattle.reading.specs.declared.Counts.{Counts}
 use Rattle.reading.specs.declared.Rule.{Rule}
 use Rattle.reading.specs.declared.Cursor.{Cursor}

@@ -15,8 +15,8 @@ use Rattle.paper.specs.Lists.{inFront, zeros}
 use Rattle.paper.specs.Replies.{said, checkedSaid, writtenSaid}
 use Rattle.paper.specs.Chart.{headSize}
 use Rattle.paper.specs.Check.{sizesFit, headFits, checkReply}
-use Rattle.paper.specs.Frames.{payload, frameFits}
-use Rattle.paper.specs.Texts.{Filled, Lines, badLine, badHead, widthOf, dues, linesAfter, textMost, chartMost, linesOfText, chartRead, linesRead, readChart}
+use Rattle.pages.specs.Frames.{payload, frameFits}
+use Rattle.pages.specs.Texts.{Filled, Lines, badLine, badHead, widthOf, dues, linesAfter, textMost, chartMost, linesOfText, chartRead, linesRead, readChart}
 use Rattle.chart.proofs.Ranges.{sizes-are}
 use Rattle.chart.proofs.Checked.{shaped, fits-fine, fits-refused}
 use Rattle.reading.specs.declared.Counts.{Counts}

@@ -6,8 +6,8 @@ use lib.ListN.{length, take}
 use lib.Dec.{ltb}
 use Rattle.paper.specs.Lists.{pick, inFront, zeros}
 use Rattle.paper.specs.Chart.{headSize}
-use Rattle.paper.specs.Frames.{lineLength}
-use Rattle.paper.specs.Texts.{Lines, badLine, badHead, chart, linesOf, widthOf, duesFrom, linesFrom, textMost, chartMost}
+use Rattle.pages.specs.Frames.{lineLength}
+use Rattle.pages.specs.Texts.{Lines, badLine, badHead, chart, linesOf, widthOf, duesFrom, linesFrom, textMost, chartMost}
 use Rattle.paper.specs.declared.Written.{Written}
 use Rattle.reading.specs.declared.Counts.{Counts}
 use Rattle.reading.specs.declared.Rule.{Rule}

@@ -11,7 +11,7 @@ ghost use mathlib.Core.Path.{_≡_};
 ghost use Prim.Native.Nat.{_≤_};
 ghost use lib.ListN.{length};
 ghost use Rattle.paper.specs.Replies.{writtenSaid};
-ghost use Rattle.paper.specs.Texts.{Filled, chartMost, linesOfText, linesRead, readChart};
+ghost use Rattle.pages.specs.Texts.{Filled, chartMost, linesOfText, linesRead, readChart};
 ghost use Rattle.reading.specs.Reading.{Few, Ruled, Stepping, behindLine, RestIn, restLines, LinesSay, zeroedBy};
 
 // A text has at most so many bytes, and so has a chart.

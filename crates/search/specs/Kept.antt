@@ -1,6 +1,5 @@
 -- The kept values and their numbers, and what a search among them answers.
 use mathlib.Core.Path.{_≡_}
-use mathlib.Core.Bool.{true}
 use mathlib.Core.List.{List}
 use Prim.Native.Nat.{ℕ, suc, _*_, _≤_, _<_}
 use lib.ListN.{length, getD, set}
@@ -8,7 +7,7 @@ use Rattle.places.specs.Search.{placeAt, values, placeFor}
 use Rattle.marks.specs.Marks.{markOf}
 use Rattle.kinds.specs.Kinds.{keyBy}
 use Rattle.kinds.specs.declared.Plan.{Plan}
-use Rattle.paper.specs.Numbering.{place, kept}
+use Rattle.paper.specs.Numbering.{place}
 use Rattle.places.specs.declared.Place.{Place}
 use Rattle.kinds.specs.Ready.{Value}
 

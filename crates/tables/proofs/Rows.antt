@@ -1,12 +1,12 @@
 -- When a table's size and one of its rows fit, from the tests that the code makes.
-use mathlib.Core.Path.{_≡_, refl, sym}
+use mathlib.Core.Path.{_≡_}
 use mathlib.Core.Bool.{Bool, true, false}
 use mathlib.Core.List.{List, [], _∷_}
 use Rattle.paper.specs.Replies.{Reply}
 use Prim.Native.Nat.{ℕ, _+_, _*_, _≤_, _<_}
 use native.Mathlib.Omega.{arith}
 use lib.ListN.{length}
-use lib.Dec.{leb, ltb}
+use lib.Dec.{leb}
 use borrow.Author.Tests.{le-ltb, lt-ltb, leb-true}
 use Rattle.paper.specs.Lists.{both, allBelow}
 use Rattle.paper.specs.Tables.{gradeAt, nextAt, rowSize, nextFits, sizeFits, rowFits, stepReply, gradeReply}

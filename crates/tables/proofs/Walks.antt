@@ -1,18 +1,18 @@
 -- The walk over a table whose rows fit, and the answer of grading a word.
-use mathlib.Core.Path.{_≡_, refl, sym, ap, _∙_}
+use mathlib.Core.Path.{_≡_, refl, sym, _∙_}
 use mathlib.Core.Bool.{Bool, true, false}
 use mathlib.Core.List.{List, [], _∷_}
-use Prim.Native.Nat.{ℕ, suc, _+_, _*_, _≤_, _<_}
+use Prim.Native.Nat.{ℕ, _+_, _≤_, _<_}
 use native.Mathlib.Numerals.{add-one}
 use native.Mathlib.Omega.{arith}
 use lib.ListN.{length, getD, drop}
 use lib.Seq.{drop-cons, drop-length}
-use lib.Dec.{leb, ltb}
+use lib.Dec.{ltb}
 use borrow.Author.Tests.{le-ltb, lt-ltb, le-leb, lt-leb, ltb-true, ltb-false}
 use Rattle.paper.specs.Lists.{both, pick, allBelow}
 use Rattle.paper.specs.Replies.{Reply}
 use Rattle.paper.specs.Words.{after}
-use Rattle.paper.specs.Tables.{gradeAt, nextAt, rowSize, nextFits, sizeFits, rowFits, tableFits, nextBy, stateOf, tableGrade, letterFits, badLetter, wordReply, gradeTop, tableReply}
+use Rattle.paper.specs.Tables.{gradeAt, nextAt, nextFits, sizeFits, rowFits, tableFits, nextBy, stateOf, tableGrade, letterFits, badLetter, wordReply, gradeTop, tableReply}
 use Rattle.tables.specs.Walking.{RowIn, Walkable}
 use Rattle.tables.specs.Walking.{foundOf}
 use Rattle.tables.specs.declared.walk.Found.{Found}

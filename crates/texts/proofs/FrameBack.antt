@@ -11,7 +11,7 @@ use lib.Seq.{take-suc, getD-drop, ext-getD}
 use borrow.Author.Tests.{lt-ltb, le-ltb, ltb-true, ltb-false, leb-true, leb-false}
 use Rattle.paper.specs.Lists.{pick, tabulate}
 use Rattle.paper.specs.Tables.{twoBytes}
-use Rattle.paper.specs.Frames.{hexOf, digitOf, hexed, framed, frame, newline, digitsLength, lineLength, byteAt, digitFits, payloadAt, payload, frameFits}
+use Rattle.pages.specs.Frames.{hexOf, digitOf, hexed, framed, frame, newline, digitsLength, lineLength, byteAt, digitFits, payloadAt, payload, frameFits}
 use Rattle.lists.proofs.Tests.{all-by}
 use Rattle.lists.proofs.ByPlace.{tabulate-cong}
 use Rattle.lists.proofs.Bound.{le-or-lt}

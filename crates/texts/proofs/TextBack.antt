@@ -10,8 +10,8 @@ use lib.Seq.{take-length, drop-drop, getD-take}
 use borrow.Author.Tests.{leb-true}
 use Rattle.paper.specs.Chart.{headSize}
 use Rattle.paper.specs.Check.{headFits}
-use Rattle.paper.specs.Frames.{frame, lineLength, payload, frameFits}
-use Rattle.paper.specs.Texts.{Lines, badLine, badHead, chart, dues, linesFrom, linesAfter, textMost, linesOfText}
+use Rattle.pages.specs.Frames.{frame, lineLength, payload, frameFits}
+use Rattle.pages.specs.Texts.{Lines, badLine, badHead, chart, dues, linesFrom, linesAfter, textMost, linesOfText}
 use Rattle.lists.proofs.Tests.{unless-passed}
 use Rattle.texts.specs.ChartText.{framesOf, textOf}
 use Rattle.texts.proofs.ListLaws.{begins}

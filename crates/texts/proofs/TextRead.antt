@@ -11,8 +11,8 @@ use lib.Seq.{take-length, take-add, getD-take, getD-drop, getD-append-add, lengt
 use borrow.Author.Tests.{le-leb}
 use Rattle.paper.specs.Chart.{headSize, kOf, eOf, nOf, mOf, chartSize}
 use Rattle.paper.specs.Check.{headFits}
-use Rattle.paper.specs.Frames.{frame, lineLength, payload, frameFits}
-use Rattle.paper.specs.Texts.{chart, linesOf, widthOf, duesFrom, dues, linesFrom, linesAfter, textMost, linesOfText}
+use Rattle.pages.specs.Frames.{frame, lineLength, payload, frameFits}
+use Rattle.pages.specs.Texts.{chart, linesOf, widthOf, duesFrom, dues, linesFrom, linesAfter, textMost, linesOfText}
 use Rattle.cells.specs.Shaped.{Sizes}
 use Rattle.chart.proofs.Ranges.{sizes-are}
 use Rattle.lists.proofs.Bound.{le-or-lt, product}

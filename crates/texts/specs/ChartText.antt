@@ -3,8 +3,8 @@ use mathlib.Core.List.{List, [], _∷_, _++_}
 use Prim.Native.Nat.{ℕ, _+_}
 use lib.ListN.{take, drop}
 use Rattle.paper.specs.Chart.{headSize}
-use Rattle.paper.specs.Frames.{frame}
-use Rattle.paper.specs.Texts.{dues}
+use Rattle.pages.specs.Frames.{frame}
+use Rattle.pages.specs.Texts.{dues}
 
 -- frames of these kinds and widths, with the bytes of a chart from a place on
 unfoldable pub framesOf : List ℕ → List (ℕ × ℕ) → ℕ → List ℕ

@@ -1,20 +1,19 @@
 -- Parts of a checked chart's bytes as vectors: the start vector, the end vector, a row of a matrix. Assumes nothing.
-use mathlib.Core.Path.{_≡_, refl, sym, _∙_}
+use mathlib.Core.Path.{_≡_, _∙_}
 use mathlib.Core.List.{List}
-use Prim.Native.Nat.{ℕ, suc, _+_, _*_, _≤_, _<_}
+use Prim.Native.Nat.{ℕ, _+_, _*_, _≤_, _<_}
 use native.Mathlib.Nat.{add-assoc, mul-le-mul, mul-le-mul-right, suc-mul}
 use native.Mathlib.Omega.{arith}
 use lib.Arith.{digits-lt}
-use lib.ListN.{length, getD, take, drop, length-take, length-drop}
+use lib.ListN.{getD, take, drop, length-take, length-drop}
 use lib.Seq.{getD-take, getD-drop}
 use Rattle.paper.specs.declared.Shape.{Shape}
-use Rattle.paper.specs.Lists.{tabulate}
-use Rattle.paper.specs.Chart.{headSize, kOf, nOf, mOf, letters, startFrom, endFrom, matrixFrom, chartSize, gradeFrom, entry, startVec, endVec}
+use Rattle.paper.specs.Chart.{headSize, nOf, letters, startFrom, endFrom, matrixFrom, gradeFrom, entry, startVec, endVec}
 use Rattle.paper.specs.Vectors.{combine, combineTerm, colEntry, colTerm, endGrade, startGrade}
 use Rattle.lists.proofs.ByPlace.{getD-tabulate}
 use Rattle.algebra.proofs.Joins.{joins-cong}
 use Rattle.cells.specs.Shaped.{Shaped, Read}
-use Rattle.vectors.specs.Products.{Grades, PartOf}
+use Rattle.vectors.specs.Products.{PartOf}
 
 module _ {c : List ℕ} {s : Shape} (h : Shaped c s) where
   -- the part that the code takes, of as many bytes as there are states

@@ -6,7 +6,7 @@ use lib.ListN.{length}
 use Rattle.paper.specs.Tables.{rowSize}
 use Rattle.kinds.specs.declared.Plan.{Plan}
 use Rattle.paper.specs.Lists.{inFront}
-use Rattle.paper.specs.Numbering.{place, expanded, explored}
+use Rattle.paper.specs.Numbering.{explored}
 use Rattle.paper.specs.Constructions.{statesOf, tableOf}
 use Rattle.paper.specs.Builders.{placed}
 use Rattle.kinds.specs.Kinds.{made}

@@ -5,7 +5,7 @@ use mathlib.Core.Bool.{true}
 use mathlib.Core.Path.{_≡_, refl}
 use Prim.Native.Nat.{_≤_, _-_}
 use native.Mathlib.Omega.{arith}
-use Rattle.paper.specs.Frames.{digitFits}
+use Rattle.pages.specs.Frames.{digitFits}
 use Rattle.paper.specs.Lists.{allBelow}
 use Rattle.frames.proofs.FrameRead.{digit-bad, digit-more, digits-all}
 use Rattle.frames.proofs.digits_fit.Statement.{statement}

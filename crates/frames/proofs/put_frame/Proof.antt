@@ -5,7 +5,7 @@ use mathlib.Core.Path.{_≡_, refl, _∙_}
 use Prim.Native.Nat.{_≤_, _-_, _+_, _*_}
 use native.Mathlib.Omega.{arith}
 use lib.ListN.{length}
-use Rattle.paper.specs.Frames.{frame}
+use Rattle.pages.specs.Frames.{frame}
 use Rattle.frames.specs.Lines.{LineIn}
 use Rattle.frames.proofs.FrameWritten.{put-pair, put-end}
 use Rattle.lists.proofs.Front.{begun, begun-none}

@@ -5,7 +5,7 @@ use mathlib.Core.Path.{_≡_, refl}
 use Prim.Native.Nat.{_≤_, _-_}
 use native.Mathlib.Omega.{arith}
 use lib.ListN.{length, length-set}
-use Rattle.paper.specs.Frames.{payload}
+use Rattle.pages.specs.Frames.{payload}
 use Rattle.frames.specs.Lines.{PayloadIn}
 use Rattle.frames.proofs.FrameRead.{payload-small, payload-more, payload-done}
 use Rattle.lists.proofs.Front.{begun, begun-none}

@@ -3,9 +3,9 @@ use Rattle.lists.proofs.Lent.{zeros-more, zeros-all}
 use denote.Ref.{now}
 use native.Mathlib.Omega.{arith}
 use lib.ListN.{length, drop, replicate}
-use Prim.Native.Nat.{ℕ, _≤_, _-_}
+use Prim.Native.Nat.{_≤_, _-_}
 use mathlib.Core.List.{_++_}
-use mathlib.Core.Path.{_≡_, refl, ap, _∙_}
+use mathlib.Core.Path.{_≡_, refl}
 use borrow.Author.Needs.{needs}
 use Rattle.lists.proofs.zero.Statement.{statement}
 use Rattle.lists.proofs.zero.Tie as tie

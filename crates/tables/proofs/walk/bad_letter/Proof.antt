@@ -6,7 +6,6 @@ use mathlib.Core.Bool.{true}
 use Prim.Native.Nat.{_≤_, _-_}
 use native.Mathlib.Omega.{arith}
 use lib.ListN.{length}
-use borrow.Author.Tests.{lt-ltb, le-ltb}
 use Rattle.paper.specs.Lists.{allBelow}
 use Rattle.paper.specs.Tables.{letterFits}
 use Rattle.tables.proofs.Walks.{bad-is, bad-none, more-letter, found-at, found-none}

@@ -1,14 +1,13 @@
 -- The three programs: a chart's text on standard input, the table's text or one refusal line on standard output.
 use mathlib.Core.List.{List}
 use Prim.Native.Nat.{ℕ, suc, _*_}
-use lib.ListN.{getD, replicate}
+use lib.ListN.{getD}
 use lib.Dec.{eqb}
 use Rattle.paper.specs.Lists.{unless}
 use Rattle.paper.specs.Replies.{Reply}
 use Rattle.paper.specs.Chart.{letters}
-use Rattle.paper.specs.Tables.{rowSize}
-use Rattle.paper.specs.Builders.{Forward, Lent, Backward, nerode, reduced, brzozowski}
-use Rattle.paper.specs.Texts.{Filled, chartMost, readChart, tableText, refusalText}
+use Rattle.paper.specs.Builders.{Forward, Lent, Backward, nerode, reduced, brzozowski, blank, blankTable, blankVectors}
+use Rattle.pages.specs.Texts.{Filled, chartMost, readChart, tableText, refusalText}
 
 -- the programs' rooms, and what they lend for charts of up to 16 letters and 24 states
 abbrev pub programRoom : ℕ
@@ -16,15 +15,6 @@ programRoom = 128
 
 abbrev pub programReverse : ℕ
 programReverse = 64
-
-abbrev pub blank : ℕ → List ℕ
-blank n = replicate n 0
-
-abbrev pub blankTable : ℕ → List ℕ
-blankTable room = blank (room * rowSize 16)
-
-abbrev pub blankVectors : ℕ → List ℕ
-blankVectors room = blank (suc room * 24)
 
 abbrev pub programLent : Lent
 programLent =

@@ -3,12 +3,12 @@ use mathlib.Core.List.{List, [], _∷_, _++_}
 use Prim.Native.Nat.{ℕ, zero, suc, _+_, _*_}
 use lib.ListN.{length, replicate}
 use lib.Dec.{leb}
 use Rattle.paper.specs.Lists.{pick, unless, joined, part, inFront, zeros}
 use Rattle.paper.specs.Replies.{Reply, fine}
 use Rattle.paper.specs.Chart.{headSize, kOf, nOf, mOf, chartSize}
 use Rattle.paper.specs.Check.{headFits, checkReply, chartFits}
 use Rattle.paper.specs.Tables.{twoBytes, rowSize, tableFitsChart, capOf}
-use Rattle.paper.specs.Frames.{frame, lineLength, frameFits, payload}
+use Rattle.pages.specs.Frames.{frame, lineLength, frameFits, payload}
 
 -- a reply, and a lent buffer as it is left
 pub record Filled : Type 0 where

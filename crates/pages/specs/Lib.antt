@@ -1,0 +1,4 @@
+pub mod Frames
+pub mod Texts
+pub mod Programs
+pub mod SampleTexts
