@@ -20,6 +20,10 @@ pub mark-all : (key : List ℕ) (i : ℕ) {sum : ℕ} → sum ≡ markTo i key �
 unfolding markOf
 mark-all key i e q = e ∙ ap (λ n. markTo n key) q
 
+-- other numbers: other keys
+pub unmarked : (a b : List ℕ) {m n : ℕ} → m ≡ markOf a → n ≡ markOf b → (m ≡ n → ⊥) → false ≡ sameList a b
+unmarked a b p q f = sym (same-not a b (λ e. f (p ∙ ap markOf e ∙ sym q)))
+
 -- two lists of one length
 module _ (a b : List ℕ) (l : length a ≡ length b) where
   -- all bytes passed are the same

@@ -1,4 +1,4 @@
--- The number kept for each state: equal keys have equal numbers, so a search compares keys only where the numbers agree.
+-- The number of a key: equal keys have equal numbers, so a search compares keys only where the numbers agree.
 use mathlib.Core.List.{List}
 use Prim.Native.Nat.{ℕ, zero, suc, _+_, _*_, _%_}
 use lib.ListN.{length, getD}

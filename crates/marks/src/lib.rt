@@ -1,4 +1,6 @@
-// The number kept for each state, and comparing bytes.
+// Numbers of keys, comparing bytes, and an index of kept numbers by buckets.
+pub mod chains;
+
 ghost use mathlib.Core.Path.{_≡_};
 ghost use lib.ListN.{length};
 ghost use Rattle.paper.specs.Lists.{sameList};

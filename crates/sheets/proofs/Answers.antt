@@ -1,5 +1,5 @@
 -- What the sheet check answers, return by return. Assumes nothing.
-use mathlib.Core.Path.{_≡_, sym, ap, _∙_}
+use mathlib.Core.Path.{_≡_, sym, _∙_}
 use mathlib.Core.Bool.{true, false}
 use mathlib.Core.List.{List, [], _∷_}
 use Prim.Native.Nat.{ℕ, _+_, _*_, _≤_, _<_}
@@ -16,11 +16,10 @@ use Rattle.paper.specs.Check.{checkReply}
 use Rattle.paper.specs.Tables.{tableFits, tableFitsChart}
 use Rattle.paper.specs.Sheets.{lineState, lineVector, lineGradeFits, lineFits, sheetFits, onSheet, gradeHolds, nextHolds, badLine, lineReply, sheetReply}
 use Rattle.lists.proofs.Tests.{both-split, all-at}
-use Rattle.lists.proofs.ByPlace.{length-tabulate}
 use Rattle.cells.specs.Shaped.{Shaped}
 use Rattle.chart.proofs.Checked.{fits-fine, fits-refused}
 use Rattle.card.proofs.Caps.{row-beside}
-use Rattle.sheets.specs.Readable.{LinesIn, Readable, linesReply}
+use Rattle.sheets.specs.Readable.{LinesIn, Readable, linesReply, pairsReply}
 
 -- ---- what the tests that a sheet passed tell
 
@@ -29,7 +28,7 @@ unfolding sheetFits
 lines-in {c} {s} h count sheet lines e =
     let p = both-split (both (leb lines 4096) (leb (lines * (2 + nOf c)) (length sheet))) (allBelow lines (lineFits c count sheet)) e in
     let q = both-split (leb lines 4096) (leb (lines * (2 + nOf c)) (length sheet)) (p .0) in
-    record { shaped = h; inside = rw (h .n-is) (leb-true (lines * (2 + nOf c)) (length sheet) (q .1)) }
+    record { shaped = h; few = leb-true lines 4096 (q .0); inside = rw (h .n-is) (leb-true (lines * (2 + nOf c)) (length sheet) (q .1)) }
 
 module _ {c : List ℕ} {s : Shape} (h : Shaped c s) (rows : List ℕ) (count m : ℕ) (sheet : List ℕ) (lines : ℕ) (fits : tableFitsChart c rows count m ≡ true) (e : sheetFits c count sheet lines ≡ true) where
   line-fits : (i : ℕ) → i < lines → (lineState c sheet i < count) × (allBelow (nOf c) (lineGradeFits c sheet i) ≡ true)
@@ -52,10 +51,6 @@ module _ {c : List ℕ} {s : Shape} (h : Shaped c s) (rows : List ℕ) (count m 
         low = λ i p l b. rw (h .k-is) (ltb-true (getD (lineVector c sheet i) p 0) (kOf c) (all-at (lineGradeFits c sheet i) (nOf c) (line-fits i l .1) p (rw (h .n-is) at b)));
       }
 
-pub length-start : {c : List ℕ} {s : Shape} → Shaped c s → (v : List ℕ) → v ≡ startVec c → length v ≡ s .n
-unfolding startVec
-length-start {c} h v e = ap length e ∙ length-tabulate (nOf c) _ ∙ sym (h .n-is)
-
 -- ---- the lines
 
 module _ (c rows sheet : List ℕ) (lines : ℕ) {i : ℕ} (e : i ≡ badLine c rows sheet lines) where
@@ -71,6 +66,17 @@ module _ (c rows sheet : List ℕ) (lines : ℕ) {i : ℕ} (e : i ≡ badLine c 
     pub next-wrong : gradeHolds c rows sheet i ≡ true → (x : ℕ) → x ≡ leastFail (letters c) (nextHolds c rows sheet lines i) → _≡_ {A = Reply} (13, i ∷ x ∷ []) (linesReply c rows sheet lines)
     unfolding linesReply lineReply
     next-wrong f x q = rw (← e, lt-leb lines i l, f, q)
+
+-- ---- the start pair
+
+module _ (c rows sheet : List ℕ) (lines : ℕ) where
+  pub start-wrong : onSheet c sheet lines 0 (startVec c) ≡ false → _≡_ {A = Reply} (11, []) (pairsReply c rows sheet lines)
+  unfolding pairsReply
+  start-wrong o = rw o
+
+  pub start-right : onSheet c sheet lines 0 (startVec c) ≡ true → {r : Reply} → r ≡ linesReply c rows sheet lines → r ≡ pairsReply c rows sheet lines
+  unfolding pairsReply
+  start-right o q = rw o q
 
 -- ---- the sheet, from the chart check's answer
 
@@ -89,11 +95,6 @@ module _ (c rows : List ℕ) (count m : ℕ) (sheet : List ℕ) (lines : ℕ) (a
       unfolding sheetReply
       sheet-refused f = rw (fits-fine c reply e, t, f)
 
-      module _ (f : sheetFits c count sheet lines ≡ true) (v : List ℕ) (v-is : v ≡ startVec c) where
-        pub start-refused : onSheet c sheet lines 0 v ≡ false → _≡_ {A = Reply} (11, []) (sheetReply c rows count m sheet lines)
-        unfolding sheetReply
-        start-refused o = rw (fits-fine c reply e, t, f, rw v-is at o)
-
-        pub lines-said : onSheet c sheet lines 0 v ≡ true → {r : Reply} → r ≡ linesReply c rows sheet lines → r ≡ sheetReply c rows count m sheet lines
-        unfolding sheetReply linesReply
-        lines-said o q = rw (fits-fine c reply e, t, f, rw v-is at o) q
+      pub pairs-said : sheetFits c count sheet lines ≡ true → {r : Reply} → r ≡ pairsReply c rows sheet lines → r ≡ sheetReply c rows count m sheet lines
+      unfolding sheetReply pairsReply linesReply
+      pairs-said f q = rw (fits-fine c reply e, t, f) q

@@ -1,67 +1,41 @@
--- The pairs of a sheet that fits, and what must hold of each line. Assumes nothing.
-use mathlib.Core.Path.{_≡_, refl, sym, ap, ap₂, _∙_}
-use mathlib.Core.Bool.{Bool, true, false, not}
+-- What must hold of each line of a sheet that fits. Assumes nothing.
+use mathlib.Core.Path.{_≡_, refl, sym, _∙_}
+use mathlib.Core.Bool.{Bool, true, false}
 use mathlib.Core.List.{List}
 use Prim.Native.Nat.{ℕ, _+_, _<_}
 use native.Mathlib.Omega.{arith}
 use lib.Dec.{eqb, leb}
-use lib.ListN.{length, take, drop}
-use lib.Seq.{take-at}
-use borrow.Author.Tests.{eq-eqb, ne-eqb, leb-true, leb-false}
+use lib.ListN.{length, take}
+use borrow.Author.Tests.{leb-true, leb-false}
 use Rattle.paper.specs.declared.Shape.{Shape}
-use Rattle.paper.specs.Lists.{both, allBelow, leastFail, inFront, sameList}
-use Rattle.paper.specs.Chart.{nOf, letters}
+use Rattle.paper.specs.Lists.{both, allBelow, leastFail, tabulate, inFront}
+use Rattle.paper.specs.Chart.{nOf, letters, startFrom, gradeFrom, startVec}
 use Rattle.paper.specs.Vectors.{rowEntry, rowTimes, endGrade}
 use Rattle.paper.specs.Tables.{gradeAt, nextAt}
-use Rattle.paper.specs.Sheets.{lineState, lineVector, otherPair, onSheet, gradeHolds, nextHolds, lineHolds, badLine}
-use Rattle.lists.proofs.Tests.{all-at, all-by, all-fails, all-more, least, least-is, least-none, both-not-left}
+use Rattle.paper.specs.Sheets.{lineState, lineVector, onSheet, gradeHolds, nextHolds, lineHolds, badLine}
+use Rattle.lists.proofs.Tests.{all-at, all-by, all-fails, least, least-is, least-none, both-not-left}
 use Rattle.lists.proofs.ByPlace.{length-tabulate}
 use Rattle.cells.specs.Shaped.{Shaped, Read}
 use Rattle.tables.specs.Walking.{RowIn}
 use Rattle.vectors.specs.Products.{Grades}
-use Rattle.sheets.specs.Readable.{Readable}
+use Rattle.sheets.specs.Readable.{Readable, pairState, pairVector, pairOf, nextState, nextPair}
 use Rattle.sheets.proofs.Reading.{length-vector, line-in}
-
--- ---- one pair
-
-module _ (c sheet : List ℕ) (i s : ℕ) (v : List ℕ) {q : ℕ} (e : q ≡ lineState c sheet i) where
-  pub other-state : (q ≡ s → ⊥) → false ≡ both (eqb (lineState c sheet i) s) (sameList (lineVector c sheet i) v)
-  unfolding both
-  other-state f = rw (ne-eqb (lineState c sheet i) s (λ p. f (e ∙ p)))
-
-  pub same-state : q ≡ s → (w : List ℕ) → w ≡ lineVector c sheet i → (r : Bool) → r ≡ sameList w v → r ≡ both (eqb (lineState c sheet i) s) (sameList (lineVector c sheet i) v)
-  unfolding both
-  same-state p w ew r er = rw (eq-eqb (lineState c sheet i) s (sym e ∙ p), ← ew) er
-
--- ---- the search
-
-module _ (c sheet : List ℕ) (lines s : ℕ) (v : List ℕ) where
-  pub found : (i : ℕ) → i < lines → {t : Bool} → t ≡ both (eqb (lineState c sheet i) s) (sameList (lineVector c sheet i) v) → t ≡ true → true ≡ onSheet c sheet lines s v
-  unfolding onSheet otherPair
-  found i l e h = rw (all-fails (otherPair c sheet s v) lines i l (ap not (sym e ∙ h)))
-
-  pub passed : (i : ℕ) → allBelow i (otherPair c sheet s v) ≡ true → {t : Bool} → t ≡ both (eqb (lineState c sheet i) s) (sameList (lineVector c sheet i) v) → t ≡ false → allBelow (i + 1) (otherPair c sheet s v) ≡ true
-  unfolding otherPair
-  passed i a e h = all-more (otherPair c sheet s v) i a (ap not (sym e ∙ h))
-
-  pub nowhere : (i : ℕ) → i ≡ lines → allBelow i (otherPair c sheet s v) ≡ true → false ≡ onSheet c sheet lines s v
-  unfolding onSheet
-  nowhere i q a = rw (rw q at a)
+use Rattle.sheets.proofs.PairBytes.{pair-said}
 
 -- ---- a line of a sheet that fits
 
--- a product that was written to the front of a buffer
-module _ {c : List ℕ} {s : Shape} (h : Shaped c s) (x : ℕ) (v old out : List ℕ) (e : out ≡ inFront (rowTimes c x v) old) where
-  length-times : length (rowTimes c x v) ≡ s .n
-  unfolding rowTimes
-  length-times = length-tabulate (nOf c) (rowEntry c x v) ∙ sym (h .n-is)
+pub length-times : {c : List ℕ} {s : Shape} → Shaped c s → (x : ℕ) (v : List ℕ) → length (rowTimes c x v) ≡ s .n
+unfolding rowTimes
+length-times {c} h x v = length-tabulate (nOf c) (rowEntry c x v) ∙ sym (h .n-is)
 
-  front-times : take (s .n) out ≡ rowTimes c x v
-  unfolding inFront
-  front-times = rw e (take-at (rowTimes c x v) (drop (length (rowTimes c x v)) old) (s .n) length-times)
+pub length-start : {c : List ℕ} {s : Shape} → Shaped c s → length (startVec c) ≡ s .n
+unfolding startVec
+length-start {c} h = length-tabulate (nOf c) (gradeFrom c (startFrom c)) ∙ sym (h .n-is)
 
-  pub length-front : length (take (s .n) out) ≡ s .n
-  length-front = ap length front-times ∙ length-times
+-- the start pair, as it was written
+pub start-put : {c : List ℕ} {s : Shape} → Shaped c s → (old : List ℕ) {out : List ℕ} → out ≡ inFront (pairOf 0 (tabulate (s .n) (gradeFrom c (s .start)))) old → out ≡ inFront (pairOf 0 (startVec c)) old
+unfolding startVec
+start-put h old e = e ∙ rw (h .n-is, h .start-is)
 
 module _ {c : List ℕ} {s : Shape} {rows sheet : List ℕ} {lines : ℕ} (h : Readable c s rows sheet lines) {i : ℕ} (l : i < lines) where
   pub line-row : {q : ℕ} → q ≡ lineState c sheet i → RowIn rows (s .letters) q
@@ -78,13 +52,18 @@ module _ {c : List ℕ} {s : Shape} {rows sheet : List ℕ} {lines : ℕ} (h : R
   unfolding gradeHolds
   grade-is eq ev ea eb = rw (ea, eb .is, eq, ev, h .linesIn .shaped .letters-is)
 
-  pub next-is : (x : ℕ) (old : List ℕ) {q t : ℕ} {v out w : List ℕ} {r : Bool} → q ≡ lineState c sheet i → v ≡ lineVector c sheet i → out ≡ inFront (rowTimes c x v) old →
-      w ≡ take (s .n) out → t ≡ nextAt rows (s .letters) q x → r ≡ onSheet c sheet lines t w → r ≡ nextHolds c rows sheet lines i x
+  -- the next pair, as it was written
+  pub next-put : (x : ℕ) (old : List ℕ) {q t : ℕ} {v out : List ℕ} → q ≡ lineState c sheet i → v ≡ lineVector c sheet i → (t ≡ nextAt rows (s .letters) q x) × (t < 65536) →
+      out ≡ inFront (pairOf t (rowTimes c x v)) old → (out ≡ inFront (nextPair c rows sheet i x) old) × (nextState c rows sheet i x < 65536)
+  next-put x old {q} {t} eq ev et eo =
+      let t-is : t ≡ nextState c rows sheet i x = rw (et .0, eq, h .linesIn .shaped .letters-is) in (eo ∙ rw (t-is, ev), rw (← t-is) (et .1))
+
+module _ {c : List ℕ} {s : Shape} (h : Shaped c s) (rows sheet : List ℕ) (lines i x : ℕ) (old : List ℕ) {out : List ℕ} {r : Bool} where
+  -- it was looked up
+  pub next-is : (out ≡ inFront (nextPair c rows sheet i x) old) × (nextState c rows sheet i x < 65536) →
+      r ≡ onSheet c sheet lines (pairState (take (2 + s .n) out)) (pairVector (take (2 + s .n) out)) → r ≡ nextHolds c rows sheet lines i x
   unfolding nextHolds
-  next-is x old {q} {t} {v} {out} {w} eq ev eo ew et er =
-      let t-is : t ≡ nextAt rows (letters c) (lineState c sheet i) x = rw (et, eq, h .linesIn .shaped .letters-is) in
-      let w-is : w ≡ rowTimes c x (lineVector c sheet i) = ew ∙ front-times (h .linesIn .shaped) x v old out eo ∙ ap (rowTimes c x) ev in
-      er ∙ ap₂ (onSheet c sheet lines) t-is w-is
+  next-is e q = pair-said (nextState c rows sheet i x) _ (s .n) (length-times h x (lineVector c sheet i)) old out (e .0) c sheet lines (e .1) q
 
 -- ---- a line's letters, and the lines
 

@@ -9,11 +9,11 @@ use lib.ListN.{length, getD, take, drop, length-take, length-drop}
 use lib.Seq.{getD-take, getD-drop, ext-getD}
 use borrow.Author.Tests.{le-ltb, lt-ltb, le-leb, lt-leb}
 use Rattle.paper.specs.declared.Shape.{Shape}
-use Rattle.paper.specs.Lists.{both, allBelow, tabulate, part, sameList}
-use Rattle.paper.specs.Chart.{kOf, nOf, startFrom, gradeFrom, startVec}
+use Rattle.paper.specs.Lists.{both, allBelow, part}
+use Rattle.paper.specs.Chart.{kOf, nOf}
 use Rattle.paper.specs.Sheets.{lineAt, lineState, lineVector, lineGradeFits, lineFits, sheetFits}
 use Rattle.lists.proofs.Tests.{both-false, all-fails, all-more}
-use Rattle.lists.proofs.ByPlace.{length-tabulate, getD-tabulate, same-by, same-not, length-part, getD-part}
+use Rattle.lists.proofs.ByPlace.{length-part, getD-part}
 use Rattle.cells.specs.Shaped.{Shaped}
 use Rattle.sheets.specs.Readable.{LineIn, LinesIn}
 
@@ -26,8 +26,19 @@ module _ {c : List ℕ} {s : Shape} {sheet : List ℕ} {i : ℕ} (h : LineIn c s
       let e : i * (2 + s .n) + 0 ≡ i * (2 + s .n) = omega arith in
       rw (← h .shaped .n-is, getD-part (2 + s .n) i sheet 0 0 (omega arith), getD-part (2 + s .n) i sheet 0 1 (omega arith), p, q, e)
 
+  -- the part that the code takes for the line
+  pub line-is : (r : List ℕ) → r ≡ take (i * (2 + s .n) + (2 + s .n) - i * (2 + s .n)) (drop (i * (2 + s .n)) sheet) → r ≡ lineAt c sheet i
+  unfolding lineAt part
+  line-is r f =
+      let e : i * (2 + s .n) + (2 + s .n) - i * (2 + s .n) ≡ 2 + s .n = omega arith in
+      f ∙ rw (e, h .shaped .n-is)
+
   length-line : length (part (2 + s .n) i sheet) ≡ 2 + s .n
   length-line = length-part (2 + s .n) i sheet (omega (arith, h .inside, suc-mul i (2 + s .n)))
+
+  pub line-length : length (lineAt c sheet i) ≡ 2 + s .n
+  unfolding lineAt
+  line-length = rw (← h .shaped .n-is) length-line
 
   pub length-vector : length (lineVector c sheet i) ≡ s .n
   unfolding lineVector lineAt
@@ -39,7 +50,7 @@ module _ {c : List ℕ} {s : Shape} {sheet : List ℕ} {i : ℕ} (h : LineIn c s
       let e : i * (2 + s .n) + (2 + p) ≡ i * (2 + s .n) + 2 + p = omega arith in
       rw (← h .shaped .n-is, getD-drop) (getD-part (2 + s .n) i sheet 0 (2 + p) (omega arith) ∙ rw e)
 
-  -- the part that the code takes
+  -- and for its vector
   pub vector-is : (r : List ℕ) → r ≡ take (i * (2 + s .n) + 2 + s .n - (i * (2 + s .n) + 2)) (drop (i * (2 + s .n) + 2) sheet) → r ≡ lineVector c sheet i
   vector-is r f =
       let w : ℕ = i * (2 + s .n) + 2 + s .n - (i * (2 + s .n) + 2) in
@@ -50,35 +61,6 @@ module _ {c : List ℕ} {s : Shape} {sheet : List ℕ} {i : ℕ} (h : LineIn c s
       let b : p < s .n = rw q at l in
       let b′ : p < w = omega arith in
       rw (getD-take, getD-drop) (sym (vector-at p b)))
-
--- ---- the start vector
-
-pub start-inside : {c : List ℕ} {s : Shape} → Shaped c s → s .start + s .n ≤ length c
-start-inside {c} {s} h =
-    let ends : s .start + s .n ≤ s .size = rw (h .start-is, h .n-is, h .size-is) (omega arith) in
-    omega (arith, h .fits)
-
-pub start-is : {c : List ℕ} {s : Shape} → Shaped c s → (r : List ℕ) → r ≡ take (s .start + s .n - s .start) (drop (s .start) c) → r ≡ startVec c
-unfolding startVec gradeFrom
-start-is {c} {s} h r f =
-    let w : ℕ = s .start + s .n - s .start in
-    let e : w ≡ s .n = omega arith in
-    let inside : s .start + s .n ≤ length c = start-inside h in
-    let q : length (take w (drop (s .start) c)) ≡ s .n = simp (length-take, length-drop) (omega arith) in
-    f ∙ ext-getD 0 (take w (drop (s .start) c)) (tabulate (nOf c) (gradeFrom c (startFrom c))) (q ∙ h .n-is ∙ sym (length-tabulate (nOf c) (gradeFrom c (startFrom c))))
-    (λ p l.
-    let b : p < s .n = rw q at l in
-    let b′ : p < w = omega arith in
-    rw (getD-take, getD-drop, getD-tabulate (nOf c) (gradeFrom c (startFrom c)) 0 p (rw (h .n-is) at b), h .start-is))
-
--- ---- two vectors
-
-module _ (v w : List ℕ) (long : length v ≡ length w) where
-  pub vectors-same : (p : ℕ) → ((j : ℕ) → j < p → getD v j 0 ≡ getD w j 0) → length v ≤ p → true ≡ sameList v w
-  vectors-same p f l = sym (same-by v w (ext-getD 0 v w long (λ j b. f j (omega arith))))
-
-  pub vectors-differ : (p : ℕ) → (getD v p 0 ≡ getD w p 0 → ⊥) → false ≡ sameList v w
-  vectors-differ p f = sym (same-not v w (λ e. f (ap (λ y. getD y p 0) e)))
 
 -- ---- when a line fits
 

@@ -1,15 +1,19 @@
 // The sheet check: whether a table grades as its chart does, by a sheet of pairs of a state and a vector.
+pub mod index;
 pub mod lines;
 pub mod pairs;
 
+use crate::index::index_lines;
 use crate::lines::sheet_fits;
-use crate::lines::start_vector;
 use crate::pairs::bad_line;
 use crate::pairs::bad_next;
 use crate::pairs::grade_holds;
-use crate::pairs::on_sheet;
+use crate::pairs::start_holds;
 use card::inner::table_fits_chart;
 use chart::check;
+use marks::chains::no_heads;
+use marks::chains::no_links;
+use marks::chains::no_marks;
 use paper::Checked;
 use paper::Refusal;
 use paper::Shape;
@@ -17,20 +21,23 @@ use paper::Verdict;
 ghost use mathlib.Core.Path.{_≡_};
 ghost use Rattle.paper.specs.Replies.{verdictSaid};
 ghost use Rattle.paper.specs.Sheets.{sheetReply};
-ghost use Rattle.sheets.specs.Readable.{Readable, linesReply};
+ghost use Rattle.sheets.specs.Readable.{Readable, Indexed, linesReply, pairsReply};
 
-// Inner: the lines of a sheet that fits, one after the other.
+// Inner: the lines of a sheet that fits and has an index, one after the other.
 pub(crate) fn check_lines(
     chart: &[u8],
     shape: Shape,
     rows: &[u8],
     sheet: &[u8],
     lines: usize,
+    heads: &[u16],
+    links: &[u16],
+    marks: &[u32],
 ) -> Verdict
-    requires { ⌜ Readable (now chart) shape (now rows) (now sheet) lines ⌝ }
+    requires { ⌜ Readable (now chart) shape (now rows) (now sheet) lines × Indexed (now chart) shape (now sheet) lines (now heads) (now links) (now marks) ⌝ }
     ensures { λ r. ⌜ verdictSaid r ≡ linesReply (now (chart .entry)) (now (rows .entry)) (now (sheet .entry)) lines ⌝ }
 {
-    let i = bad_line(chart, shape, rows, sheet, lines);
+    let i = bad_line(chart, shape, rows, sheet, lines, heads, links, marks);
     if lines <= i {
         return Verdict::Accepted;
     }
@@ -39,8 +46,37 @@ pub(crate) fn check_lines(
     }
     Verdict::Refused(Refusal::Next {
         line: i,
-        letter: bad_next(chart, shape, rows, sheet, lines, i),
+        letter: bad_next(chart, shape, rows, sheet, lines, heads, links, marks, i),
     })
+}
+
+// Inner: the pairs of a sheet that fits. The lines are numbered once, so that a pair is sought among few of them.
+pub(crate) fn check_pairs(
+    chart: &[u8],
+    shape: Shape,
+    rows: &[u8],
+    sheet: &[u8],
+    lines: usize,
+) -> Verdict
+    requires { ⌜ Readable (now chart) shape (now rows) (now sheet) lines ⌝ }
+    ensures { λ r. ⌜ verdictSaid r ≡ pairsReply (now (chart .entry)) (now (rows .entry)) (now (sheet .entry)) lines ⌝ }
+{
+    let mut heads = no_heads();
+    let mut links = no_links();
+    let mut marks = no_marks();
+    index_lines(
+        chart,
+        shape,
+        sheet,
+        lines,
+        &mut heads,
+        &mut links,
+        &mut marks,
+    );
+    if !start_holds(chart, shape, sheet, lines, &heads, &links, &marks) {
+        return Verdict::Refused(Refusal::Start);
+    }
+    check_lines(chart, shape, rows, sheet, lines, &heads, &links, &marks)
 }
 
 // Checks a sheet: whether the table's letters and grades are the chart's, the sheet fits, the start pair is on it, and every line holds.
@@ -63,10 +99,7 @@ pub fn check_sheet(
             if !sheet_fits(chart, shape, count, sheet, lines) {
                 return Verdict::Refused(Refusal::Sheet);
             }
-            if !on_sheet(chart, shape, sheet, lines, 0, start_vector(chart, shape)) {
-                return Verdict::Refused(Refusal::Start);
-            }
-            check_lines(chart, shape, rows, sheet, lines)
+            check_pairs(chart, shape, rows, sheet, lines)
         }
     }
 }

@@ -2,10 +2,7 @@
 use paper::Shape;
 ghost use mathlib.Core.Path.{_≡_};
 ghost use Prim.Native.Nat.{_<_};
-ghost use lib.ListN.{length};
-ghost use Rattle.paper.specs.Lists.{sameList};
-ghost use Rattle.paper.specs.Chart.{startVec};
-ghost use Rattle.paper.specs.Sheets.{lineState, lineVector, lineFits, sheetFits};
+ghost use Rattle.paper.specs.Sheets.{lineAt, lineState, lineVector, lineFits, sheetFits};
 ghost use Rattle.cells.specs.Shaped.{Shaped};
 ghost use Rattle.sheets.specs.Readable.{LineIn};
 
@@ -24,6 +21,16 @@ pub(crate) fn line_state(chart: &[u8], shape: Shape, sheet: &[u8], i: usize) -> 
     wide(sheet[at]) * 256 + wide(sheet[at + 1])
 }
 
+// The bytes of line i, as the part of the sheet that holds them.
+pub(crate) fn line_bytes<'a>(chart: &[u8], shape: Shape, sheet: &'a [u8], i: usize) -> &'a [u8]
+    requires { ⌜ LineIn (now chart) shape (now sheet) i ⌝ }
+    ensures { λ r. ⌜ now r ≡ lineAt (now (chart .entry)) (now (sheet .entry)) i ⌝ }
+{
+    let from = i * (2 + shape.n);
+    let to = from + (2 + shape.n);
+    &sheet[from..to]
+}
+
 // The vector of line i, as the part of the sheet that holds it.
 pub(crate) fn line_vector<'a>(chart: &[u8], shape: Shape, sheet: &'a [u8], i: usize) -> &'a [u8]
     requires { ⌜ LineIn (now chart) shape (now sheet) i ⌝ }
@@ -32,31 +39,6 @@ pub(crate) fn line_vector<'a>(chart: &[u8], shape: Shape, sheet: &'a [u8], i: us
     let from = i * (2 + shape.n) + 2;
     let to = from + shape.n;
     &sheet[from..to]
-}
-
-// The chart's start vector, as the part of the chart that holds it.
-pub(crate) fn start_vector(chart: &[u8], shape: Shape) -> &[u8]
-    requires { ⌜ Shaped (now chart) shape ⌝ }
-    ensures { λ r. ⌜ now r ≡ startVec (now (chart .entry)) ⌝ }
-{
-    let from = shape.start;
-    let to = from + shape.n;
-    &chart[from..to]
-}
-
-// Whether two vectors of one length are equal.
-pub(crate) fn same_vector(v: &[u8], w: &[u8]) -> bool
-    requires { ⌜ length (now v) ≡ length (now w) ⌝ }
-    ensures { λ r. ⌜ r ≡ sameList (now (v .entry)) (now (w .entry)) ⌝ }
-{
-    let mut p = 0;
-    while p < v.len() {
-        if v[p] != w[p] {
-            return false;
-        }
-        p += 1;
-    }
-    true
 }
 
 // Whether line i's state is below the count, and its vector one of grades.

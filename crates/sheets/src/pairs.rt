@@ -1,59 +1,79 @@
 // Inner: the pairs of a sheet that fits, and what must hold of each line. Each has a `requires`, so only proved code may call them.
+use crate::index::on_sheet;
 use crate::lines::line_state;
 use crate::lines::line_vector;
-use crate::lines::same_vector;
 use paper::Shape;
 use tables::inner::grade_at;
 use tables::inner::next_at;
 use vectors::times::end_grade;
+use vectors::times::put_grades;
 use vectors::times::row_times;
 ghost use mathlib.Core.Path.{_≡_};
-ghost use Prim.Native.Nat.{_<_};
-ghost use lib.Dec.{eqb};
+ghost use Prim.Native.Nat.{_+_, _≤_, _<_};
 ghost use lib.ListN.{length};
-ghost use Rattle.paper.specs.Lists.{both, sameList, leastFail};
-ghost use Rattle.paper.specs.Chart.{letters};
-ghost use Rattle.paper.specs.Sheets.{lineState, lineVector, onSheet, gradeHolds, nextHolds, lineHolds, badLine};
-ghost use Rattle.sheets.specs.Readable.{LineIn, LinesIn, Readable};
+ghost use Rattle.paper.specs.Lists.{leastFail, inFront};
+ghost use Rattle.paper.specs.Chart.{letters, startVec};
+ghost use Rattle.paper.specs.Sheets.{onSheet, gradeHolds, nextHolds, lineHolds, badLine};
+ghost use Rattle.cells.specs.Shaped.{Shaped};
+ghost use Rattle.sheets.specs.Readable.{Readable, Indexed, pairOf, nextState, nextPair};
 
-// Whether line i is the pair of s and v. The state is compared first.
-pub(crate) fn is_pair(
-    chart: &[u8],
-    shape: Shape,
-    sheet: &[u8],
-    i: usize,
-    s: usize,
-    v: &[u8],
-) -> bool
-    requires { ⌜ LineIn (now chart) shape (now sheet) i × (length (now v) ≡ shape .n) ⌝ }
-    ensures { λ r. ⌜ r ≡ both (eqb (lineState (now (chart .entry)) (now (sheet .entry)) i) s) (sameList (lineVector (now (chart .entry)) (now (sheet .entry)) i) (now (v .entry))) ⌝ }
+// Writes the start pair: state 0 and the chart's start vector.
+pub(crate) fn put_start(chart: &[u8], shape: Shape, out: &mut [u8])
+    requires { ⌜ Shaped (now chart) shape × (2 + shape .n ≤ length (now out)) ⌝ }
+    ensures { λ _. ⌜ now (out .exit) ≡ inFront (pairOf 0 (startVec (now (chart .entry)))) (now (out .entry)) ⌝ }
 {
-    if line_state(chart, shape, sheet, i) != s {
-        return false;
-    }
-    same_vector(line_vector(chart, shape, sheet, i), v)
+    out[0] = 0;
+    out[1] = 0;
+    put_grades(chart, shape, shape.start, &mut out[2..]);
 }
 
-// Whether some line is the pair of s and v.
-pub(crate) fn on_sheet(
+// Writes line i's next pair by letter x: the table's next state, and the vector times the letter's matrix.
+pub(crate) fn put_next(
+    chart: &[u8],
+    shape: Shape,
+    rows: &[u8],
+    sheet: &[u8],
+    lines: usize,
+    i: usize,
+    x: usize,
+    out: &mut [u8],
+)
+    requires { ⌜ Readable (now chart) shape (now rows) (now sheet) lines × (i < lines) × (x < shape .letters) × (2 + shape .n ≤ length (now out)) ⌝ }
+    ensures { λ _. ⌜ (now (out .exit) ≡ inFront (nextPair (now (chart .entry)) (now (rows .entry)) (now (sheet .entry)) i x) (now (out .entry))) × (nextState (now (chart .entry)) (now (rows .entry)) (now (sheet .entry)) i x < 65536) ⌝ }
+{
+    let s = next_at(rows, shape.letters, line_state(chart, shape, sheet, i), x);
+    out[0] = (s / 256 % 256) as u8;
+    out[1] = (s % 256) as u8;
+    let v = line_vector(chart, shape, sheet, i);
+    row_times(chart, shape, x, v, &mut out[2..]);
+}
+
+// Whether the start pair is on the sheet.
+pub(crate) fn start_holds(
     chart: &[u8],
     shape: Shape,
     sheet: &[u8],
     lines: usize,
-    s: usize,
-    v: &[u8],
+    heads: &[u16],
+    links: &[u16],
+    marks: &[u32],
 ) -> bool
-    requires { ⌜ LinesIn (now chart) shape (now sheet) lines × (length (now v) ≡ shape .n) ⌝ }
-    ensures { λ r. ⌜ r ≡ onSheet (now (chart .entry)) (now (sheet .entry)) lines s (now (v .entry)) ⌝ }
+    requires { ⌜ Indexed (now chart) shape (now sheet) lines (now heads) (now links) (now marks) ⌝ }
+    ensures { λ r. ⌜ r ≡ onSheet (now (chart .entry)) (now (sheet .entry)) lines 0 (startVec (now (chart .entry))) ⌝ }
 {
-    let mut i = 0;
-    while i < lines {
-        if is_pair(chart, shape, sheet, i, s, v) {
-            return true;
-        }
-        i += 1;
-    }
-    false
+    let mut first = [0u8; 26];
+    put_start(chart, shape, &mut first);
+    let size = 2 + shape.n;
+    on_sheet(
+        chart,
+        shape,
+        sheet,
+        lines,
+        heads,
+        links,
+        marks,
+        &first[..size],
+    )
 }
 
 // Whether line i's table grade is that of its vector.
@@ -79,23 +99,28 @@ pub(crate) fn next_holds(
     rows: &[u8],
     sheet: &[u8],
     lines: usize,
+    heads: &[u16],
+    links: &[u16],
+    marks: &[u32],
     i: usize,
     x: usize,
 ) -> bool
-    requires { ⌜ Readable (now chart) shape (now rows) (now sheet) lines × (i < lines) × (x < shape .letters) ⌝ }
+    requires { ⌜ Readable (now chart) shape (now rows) (now sheet) lines × Indexed (now chart) shape (now sheet) lines (now heads) (now links) (now marks) × (i < lines) × (x < shape .letters) ⌝ }
     ensures { λ r. ⌜ r ≡ nextHolds (now (chart .entry)) (now (rows .entry)) (now (sheet .entry)) lines i x ⌝ }
 {
-    let mut next = [0u8; 24];
-    row_times(
+    let mut next = [0u8; 26];
+    put_next(chart, shape, rows, sheet, lines, i, x, &mut next);
+    let size = 2 + shape.n;
+    on_sheet(
         chart,
         shape,
-        x,
-        line_vector(chart, shape, sheet, i),
-        &mut next,
-    );
-    let s = next_at(rows, shape.letters, line_state(chart, shape, sheet, i), x);
-    let n = shape.n;
-    on_sheet(chart, shape, sheet, lines, s, &next[..n])
+        sheet,
+        lines,
+        heads,
+        links,
+        marks,
+        &next[..size],
+    )
 }
 
 // The first letter by which line i's next pair is not on the sheet, or how many letters there are.
@@ -105,14 +130,17 @@ pub(crate) fn bad_next(
     rows: &[u8],
     sheet: &[u8],
     lines: usize,
+    heads: &[u16],
+    links: &[u16],
+    marks: &[u32],
     i: usize,
 ) -> usize
-    requires { ⌜ Readable (now chart) shape (now rows) (now sheet) lines × (i < lines) ⌝ }
+    requires { ⌜ Readable (now chart) shape (now rows) (now sheet) lines × Indexed (now chart) shape (now sheet) lines (now heads) (now links) (now marks) × (i < lines) ⌝ }
     ensures { λ r. ⌜ r ≡ leastFail (letters (now (chart .entry))) (nextHolds (now (chart .entry)) (now (rows .entry)) (now (sheet .entry)) lines i) ⌝ }
 {
     let mut x = 0;
     while x < shape.letters {
-        if !next_holds(chart, shape, rows, sheet, lines, i, x) {
+        if !next_holds(chart, shape, rows, sheet, lines, heads, links, marks, i, x) {
             return x;
         }
         x += 1;
@@ -127,25 +155,37 @@ pub(crate) fn line_holds(
     rows: &[u8],
     sheet: &[u8],
     lines: usize,
+    heads: &[u16],
+    links: &[u16],
+    marks: &[u32],
     i: usize,
 ) -> bool
-    requires { ⌜ Readable (now chart) shape (now rows) (now sheet) lines × (i < lines) ⌝ }
+    requires { ⌜ Readable (now chart) shape (now rows) (now sheet) lines × Indexed (now chart) shape (now sheet) lines (now heads) (now links) (now marks) × (i < lines) ⌝ }
     ensures { λ r. ⌜ r ≡ lineHolds (now (chart .entry)) (now (rows .entry)) (now (sheet .entry)) lines i ⌝ }
 {
     if !grade_holds(chart, shape, rows, sheet, lines, i) {
         return false;
     }
-    shape.letters <= bad_next(chart, shape, rows, sheet, lines, i)
+    shape.letters <= bad_next(chart, shape, rows, sheet, lines, heads, links, marks, i)
 }
 
 // The first line that fails, or how many lines there are.
-pub(crate) fn bad_line(chart: &[u8], shape: Shape, rows: &[u8], sheet: &[u8], lines: usize) -> usize
-    requires { ⌜ Readable (now chart) shape (now rows) (now sheet) lines ⌝ }
+pub(crate) fn bad_line(
+    chart: &[u8],
+    shape: Shape,
+    rows: &[u8],
+    sheet: &[u8],
+    lines: usize,
+    heads: &[u16],
+    links: &[u16],
+    marks: &[u32],
+) -> usize
+    requires { ⌜ Readable (now chart) shape (now rows) (now sheet) lines × Indexed (now chart) shape (now sheet) lines (now heads) (now links) (now marks) ⌝ }
     ensures { λ r. ⌜ r ≡ badLine (now (chart .entry)) (now (rows .entry)) (now (sheet .entry)) lines ⌝ }
 {
     let mut i = 0;
     while i < lines {
-        if !line_holds(chart, shape, rows, sheet, lines, i) {
+        if !line_holds(chart, shape, rows, sheet, lines, heads, links, marks, i) {
             return i;
         }
         i += 1;

@@ -1,3 +1,4 @@
+-- `marks::mark` meets its contract. The loop's invariant: the sum is the number of the bytes passed. Assumes nothing.
 use native.Mathlib.Omega.{arith}
 use mathlib.Core.Path.{_≡_, refl}
 use Prim.Native.Nat.{_≤_, _<_, _-_}
@@ -7,8 +8,6 @@ use Rattle.marks.proofs.MarkLaws.{mark-more, mark-all}
 use borrow.Author.Needs.{needs}
 use Rattle.marks.proofs.mark.Statement.{statement}
 use Rattle.marks.proofs.mark.Tie as tie
-use Rattle.marks.proofs.mark.Reads as reads
-use Rattle.marks.proofs.mark.Lts as lts
 
 abbrev Inv-loop : tie.InvT-loop
 Inv-loop key sum₀ i₀ sum i = (i ≤ length key) × (sum ≡ markTo i key) × (sum < 4294967296)

@@ -1,3 +1,4 @@
+-- `marks::same` meets its contract. The loop's invariant: the bytes passed are equal. Assumes nothing.
 use native.Mathlib.Omega.{arith}
 use mathlib.Core.Path.{_≡_}
 use Prim.Native.Nat.{ℕ, _≤_, _<_, _-_}
@@ -7,8 +8,6 @@ use Rattle.marks.proofs.MarkLaws.{same-all, same-fails}
 use borrow.Author.Needs.{needs}
 use Rattle.marks.proofs.same.Statement.{statement}
 use Rattle.marks.proofs.same.Tie as tie
-use Rattle.marks.proofs.same.Reads as reads
-use Rattle.marks.proofs.same.Lts as lts
 
 abbrev Inv-loop : tie.InvT-loop
 Inv-loop a b i₀ i = (i ≤ length a) × ((j : ℕ) → j < i → getD a j 0 ≡ getD b j 0)

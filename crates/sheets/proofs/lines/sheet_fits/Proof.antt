@@ -33,7 +33,7 @@ returns-2 c = short-sheet (c .before .before .before .before .before .pre) _ _ _
 
 loop-holds : tie.Need-loop-holds Inv-loop μ-loop
 unfolding allBelow
-loop-holds c = (search needs, search needs, record { shaped = c .before .before .before .before .before .pre; inside = omega arith }, refl)
+loop-holds c = (search needs, search needs, record { shaped = c .before .before .before .before .before .pre; few = omega arith; inside = omega arith }, refl)
 
 line-fits-requires : tie.Need-line-fits-requires Inv-loop μ-loop
 line-fits-requires c κs = line-in (c .before .loop .inv .2) (search needs)

@@ -12,17 +12,17 @@ use Rattle.sheets.proofs.pairs.bad_line.Statement.{statement}
 use Rattle.sheets.proofs.pairs.bad_line.Tie as tie
 
 abbrev Inv-loop : tie.InvT-loop
-Inv-loop chart shape rows sheet lines i₀ i = (i ≤ lines) × (allBelow i (lineHolds chart rows sheet lines) ≡ true)
+Inv-loop chart shape rows sheet lines heads links marks i₀ i = (i ≤ lines) × (allBelow i (lineHolds chart rows sheet lines) ≡ true)
 
 abbrev μ-loop : tie.MeasureT-loop
-μ-loop chart shape rows sheet lines i₀ i = lines - i
+μ-loop chart shape rows sheet lines heads links marks i₀ i = lines - i
 
 loop-holds : tie.Need-loop-holds Inv-loop μ-loop
 unfolding allBelow
 loop-holds c = (search needs, refl)
 
 line-holds-requires : tie.Need-line-holds-requires Inv-loop μ-loop
-line-holds-requires c κs = (c .before .before .before .before .before .pre, search needs)
+line-holds-requires c κs = let h = c .before .before .before .before .before .before .before .before .pre in (h .0, h .1, search needs)
 
 returns : tie.Need-returns Inv-loop μ-loop
 returns c = line-bad _ _ _ _ (c .before .before .before .loop .i) (c .before .before .before .loop .inv .1) (search needs) (fell (c .before .line-holds .ensures) (c .if1 .taken))

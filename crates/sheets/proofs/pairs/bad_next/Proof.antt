@@ -12,20 +12,20 @@ use Rattle.sheets.proofs.pairs.bad_next.Statement.{statement}
 use Rattle.sheets.proofs.pairs.bad_next.Tie as tie
 
 abbrev Inv-loop : tie.InvT-loop
-Inv-loop chart shape rows sheet lines i x₀ x = (x ≤ shape .letters) × (allBelow x (nextHolds chart rows sheet lines i) ≡ true)
+Inv-loop chart shape rows sheet lines heads links marks i x₀ x = (x ≤ shape .letters) × (allBelow x (nextHolds chart rows sheet lines i) ≡ true)
 
 abbrev μ-loop : tie.MeasureT-loop
-μ-loop chart shape rows sheet lines i x₀ x = shape .letters - x
+μ-loop chart shape rows sheet lines heads links marks i x₀ x = shape .letters - x
 
 loop-holds : tie.Need-loop-holds Inv-loop μ-loop
 unfolding allBelow
 loop-holds c = (search needs, refl)
 
 next-holds-requires : tie.Need-next-holds-requires Inv-loop μ-loop
-next-holds-requires c κs = (c .before .before .before .before .before .before .pre .0, c .before .before .before .before .before .before .pre .1, search needs)
+next-holds-requires c κs = let h = c .before .before .before .before .before .before .before .before .before .pre in (h .0, h .1, h .2, search needs)
 
 returns : tie.Need-returns Inv-loop μ-loop
-returns c = letter-bad (c .before .before .before .before .before .before .before .before .pre .0 .linesIn .shaped) _ _ _ _ (c .before .before .before .before .loop .x) (search needs) (c .before .before .before .before .loop .inv .1) (fell (c .before .next-holds .ensures) (c .if2 .taken))
+returns c = letter-bad (c .before .before .before .before .before .before .before .before .before .before .before .pre .0 .linesIn .shaped) _ _ _ _ (c .before .before .before .before .loop .x) (search needs) (c .before .before .before .before .loop .inv .1) (fell (c .before .next-holds .ensures) (c .if2 .taken))
 
 add-x : tie.Need-add-x Inv-loop μ-loop
 add-x c = search needs
@@ -37,7 +37,7 @@ loop-again : tie.Need-loop-again Inv-loop μ-loop
 loop-again c = (search needs, all-more _ _ (c .before .before .before .before .loop .inv .1) (held (c .before .next-holds .ensures) (c .if2 .left)))
 
 returns-2 : tie.Need-returns-2 Inv-loop μ-loop
-returns-2 c = letters-good (c .before .before .before .before .before .before .pre .0 .linesIn .shaped) _ _ _ _ (c .before .before .loop .x) (omega arith) (c .before .before .loop .inv .1)
+returns-2 c = letters-good (c .before .before .before .before .before .before .before .before .before .pre .0 .linesIn .shaped) _ _ _ _ (c .before .before .loop .x) (omega arith) (c .before .before .loop .inv .1)
 
 pub bad-next-spec : {M : Type 1} → statement M
 bad-next-spec =

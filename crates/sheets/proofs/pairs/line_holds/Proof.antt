@@ -15,7 +15,7 @@ bad-next-requires : tie.Need-bad-next-requires
 bad-next-requires c κs = search needs
 
 returns-2 : tie.Need-returns-2
-returns-2 c = letters-hold (c .before .before .before .before .before .before .before .pre .0 .linesIn .shaped) _ _ _ _ (held (c .before .before .before .grade-holds .ensures) (c .before .before .if1 .left)) _ (c .before .bad-next .ensures)
+returns-2 c = letters-hold (c .before .before .before .before .before .before .before .before .before .before .pre .0 .linesIn .shaped) _ _ _ _ (held (c .before .before .before .grade-holds .ensures) (c .before .before .if1 .left)) _ (c .before .bad-next .ensures)
 
 pub line-holds-spec : {M : Type 1} → statement M
 line-holds-spec = tie.close (tie.spec grade-holds-requires returns bad-next-requires returns-2)
