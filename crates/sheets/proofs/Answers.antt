@@ -19,7 +19,7 @@ use Rattle.lists.proofs.Tests.{both-split, all-at}
 use Rattle.cells.specs.Shaped.{Shaped}
 use Rattle.chart.proofs.Checked.{fits-fine, fits-refused}
 use Rattle.card.proofs.Caps.{row-beside}
-use Rattle.sheets.specs.Readable.{LinesIn, Readable, linesReply, pairsReply}
+use Rattle.lines.specs.Readable.{LinesIn, Readable, linesReply, pairsReply}
 
 -- ---- what the tests that a sheet passed tell
 

@@ -1,19 +1,15 @@
 // The sheet check: whether a table grades as its chart does, by a sheet of pairs of a state and a vector.
-pub mod index;
-pub mod lines;
-pub mod pairs;
-
-use crate::index::index_lines;
-use crate::lines::sheet_fits;
-use crate::pairs::bad_line;
-use crate::pairs::bad_next;
-use crate::pairs::grade_holds;
-use crate::pairs::start_holds;
 use card::inner::table_fits_chart;
 use chart::check;
+use index::index_lines;
+use lines::sheet_fits;
 use marks::chains::no_heads;
 use marks::chains::no_links;
 use marks::chains::no_marks;
+use pairs::bad_line;
+use pairs::bad_next;
+use pairs::grade_holds;
+use pairs::start_holds;
 use paper::Checked;
 use paper::Refusal;
 use paper::Shape;
@@ -21,7 +17,7 @@ use paper::Verdict;
 ghost use mathlib.Core.Path.{_≡_};
 ghost use Rattle.paper.specs.Replies.{verdictSaid};
 ghost use Rattle.paper.specs.Sheets.{sheetReply};
-ghost use Rattle.sheets.specs.Readable.{Readable, Indexed, linesReply, pairsReply};
+ghost use Rattle.lines.specs.Readable.{Readable, Indexed, linesReply, pairsReply};
 
 // Inner: the lines of a sheet that fits and has an index, one after the other.
 pub(crate) fn check_lines(

@@ -1,0 +1,50 @@
+-- `sheets::lines::line_state` meets its contract. Assumes nothing.
+use Rattle.lines.proofs.Reading.{state-is}
+use borrow.Author.Needs.{needs}
+use Rattle.lines.proofs.line_state.Statement.{statement}
+use Rattle.lines.proofs.line_state.Tie as tie
+
+add-at : tie.Need-add-at
+add-at c = search needs
+
+mul-at : tie.Need-mul-at
+mul-at c = search needs
+
+shared-slice-read-wide : tie.Need-shared-slice-read-wide
+shared-slice-read-wide c = search needs
+
+wide-requires : tie.Need-wide-requires
+wide-requires c κs = search needs
+
+mul-result : tie.Need-mul-result
+mul-result c = search needs
+
+add-wide : tie.Need-add-wide
+add-wide c = search needs
+
+shared-slice-read-wide-2 : tie.Need-shared-slice-read-wide-2
+shared-slice-read-wide-2 c = search needs
+
+wide-requires-2 : tie.Need-wide-requires-2
+wide-requires-2 c κs = search needs
+
+add-result : tie.Need-add-result
+add-result c = search needs
+
+returns : tie.Need-returns
+returns c = state-is (c .before .before .before .before .before .before .before .pre) _ _ (search needs) (search needs)
+
+pub line-state-spec : {M : Type 1} → statement M
+line-state-spec =
+    tie.close
+    (tie.spec
+    add-at
+    mul-at
+    shared-slice-read-wide
+    wide-requires
+    mul-result
+    add-wide
+    shared-slice-read-wide-2
+    wide-requires-2
+    add-result
+    returns)
