@@ -9,7 +9,7 @@ use borrow.Author.Tests.{ltb-true, ne-eqb}
 use Rattle.paper.specs.Lists.{unless}
 use Rattle.paper.specs.Replies.{Reply}
 use Rattle.paper.specs.Tables.{gradeAt, nextAt, gradeTop, rowFits, sizeFits, stepReply, gradeReply, stepCode, gradeCode}
-use Rattle.tables.proofs.Rows.{size-parts}
+use Rattle.rows.proofs.Rows.{size-parts}
 use Rattle.bench.proofs.Rows.{row-grade, row-next}
 use Rattle.bench.specs.Bench.{stepTold, gradeTold}
 

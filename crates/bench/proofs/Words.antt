@@ -15,8 +15,8 @@ use Rattle.paper.specs.Tables.{gradeAt, nextAt, gradeTop, rowFits, sizeFits, ta
 use Rattle.paper.specs.declared.Graded.{Graded}
 use Rattle.paper.proofs.Said.{graded-one}
 use Rattle.lists.proofs.Tests.{unless-passed, all-at, least-all}
-use Rattle.tables.proofs.Rows.{size-parts, step-next, grade-is}
-use Rattle.tables.proofs.Walks.{table-parts}
+use Rattle.rows.proofs.Rows.{size-parts, step-next, grade-is}
+use Rattle.rows.proofs.TableTest.{table-parts}
 use Rattle.bench.proofs.Rows.{row-next}
 
 -- ---- one letter more, and the end, for any way of taking letters

@@ -1,4 +1,4 @@
-// The bench reader: a lent table and the present state. Its methods are thin, over `tables::walk`.
+// The bench reader: a lent table and the present state. Its methods are thin, over `tables`.
 use paper::Graded;
 use paper::Stepped;
 ghost use mathlib.Core.Path.{_≡_};
@@ -40,7 +40,7 @@ impl<'a> Reader<'a> {
     pub fn grade(self) -> Graded
         ensures { λ g. ⌜ gradedSaid g ≡ gradeOf (self .entry) ⌝ }
     {
-        tables::walk::grade(self.rows, self.count, self.m, self.state)
+        tables::grade(self.rows, self.count, self.m, self.state)
     }
 }
 
@@ -64,7 +64,7 @@ fn state_after(state: usize, answer: Stepped) -> usize
 fn read_letter(rows: &[u8], count: usize, m: usize, state: usize, letter: usize) -> Read
     ensures { λ r. ⌜ (steppedSaid (r .answer) ≡ stepReply (now (rows .entry)) count m state letter) × (r .state ≡ readerTakes (now (rows .entry)) count m letter state) ⌝ }
 {
-    let answer = tables::walk::step(rows, count, m, state, letter);
+    let answer = tables::step(rows, count, m, state, letter);
     Read {
         state: state_after(state, answer),
         answer,
@@ -98,7 +98,7 @@ fn grade_at(rows: &[u8], count: usize, m: usize, state: usize) -> Graded
 }
 
 // Reads a word letter by letter, as a reader that starts at state 0 does, and then asks for its grade. A refused letter leaves the state as it was.
-// Where `tables::walk::grade_word` refuses nothing, both answer the same grade (`same-answer` in proofs/Words.antt).
+// Where `tables::grade_word` refuses nothing, both answer the same grade (`same-answer` in proofs/Words.antt).
 pub fn read_word(rows: &[u8], count: usize, m: usize, word: &[u8]) -> Graded
     ensures { λ g. ⌜ gradedSaid g ≡ gradeReply (now (rows .entry)) count m (readerState (now (rows .entry)) count m (now (word .entry))) ⌝ }
 {

@@ -19,9 +19,9 @@ use Rattle.paper.specs.Tables.{gradeAt, nextFits, sizeFits, rowFits, tableFits,
 use Rattle.lists.proofs.Tests.{both-left, both-right, all-at}
 use Rattle.cells.specs.Shaped.{Shaped, Read}
 use Rattle.chart.proofs.Checked.{fits-fine, fits-refused}
-use Rattle.tables.specs.Walking.{RowIn}
-use Rattle.tables.proofs.Rows.{row-in}
-use Rattle.tables.proofs.Walks.{table-parts}
+use Rattle.rows.specs.RowIn.{RowIn}
+use Rattle.rows.proofs.Rows.{row-in}
+use Rattle.rows.proofs.TableTest.{table-parts}
 use Rattle.card.specs.Capped.{Beside}
 
 -- ---- when a table fits

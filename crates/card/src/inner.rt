@@ -1,8 +1,8 @@
 // Inner: a table beside a chart that was checked. Each has a `requires`, so only proved code may call them.
 use cells::join;
 use paper::Shape;
-use tables::inner::grade_at;
-use tables::inner::table_fits;
+use rows::grade_at;
+use rows::table_fits;
 ghost use mathlib.Core.Path.{_≡_};
 ghost use Rattle.paper.specs.Tables.{tableFitsChart, capOf};
 ghost use Rattle.cells.specs.Shaped.{Shaped};

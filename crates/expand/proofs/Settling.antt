@@ -14,7 +14,7 @@ use Rattle.numbering.proofs.Place.{place-le}
 use Rattle.numbering.proofs.Kept.{kept-new, kept-old}
 use Rattle.places.specs.Search.{placeAt, values, placeFor}
 use Rattle.places.specs.declared.Place.{Place}
-use Rattle.places.proofs.Search.{length-values}
+use Rattle.places.proofs.Search.{length-values, answer-none, answer-at}
 use Rattle.marks.specs.Marks.{markOf}
 use Rattle.kinds.specs.Kinds.{keyBy, made}
 use Rattle.kinds.specs.Ready.{Value}
@@ -25,7 +25,7 @@ use Rattle.expand.specs.Taken.{Settles, Asks}
 use Rattle.kinds.specs.declared.Plan.{Plan}
 use Rattle.places.proofs.Memory.{lent-from, values-more, place-here, place-before, values-before, apart-spliced}
 use Rattle.kinds.proofs.KindLaws.{made-step}
-use Rattle.search.proofs.Found.{answer-none, answer-at, place-inside}
+use Rattle.search.proofs.Found.{place-inside}
 
 -- letter x's candidate written in place `held`, lent from there on
 module _ (p : Plan) (c t : List ℕ) (x : ℕ) (v old marks q : List ℕ) (held : ℕ) (lx : x < p .shape .letters) (a : Asks p c t held v old marks)
@@ -90,7 +90,7 @@ module _ (p : Plan) (c t : List ℕ) (x : ℕ) (v old marks q : List ℕ) (held 
 
     pub settled-new : found ≡ Place.Nowhere → Settles p c t x v old new marks′ held held (held + 1)
     settled-new e =
-        let n : place (made p c t .key) (keptIn p held old) (made p c t .step x v) ≡ held = answer-none held _ (sym seen ∙ e) none-past in
+        let n : place (made p c t .key) (keptIn p held old) (made p c t .step x v) ≡ held = omega (arith, answer-none held _ (sym seen ∙ e), none-past) in
         record {
           place-is = sym n;
           kept-is =
@@ -111,8 +111,8 @@ module _ (p : Plan) (c t : List ℕ) (x : ℕ) (v old marks q : List ℕ) (held 
     settled-old j e =
         let n = answer-at held _ j (sym seen ∙ e) in
         record {
-          place-is = n .0;
-          kept-is = listed ∙ sym (kept-old (made p c t .key) (keptIn p held old) (made p c t .step x v) (rw (length-values (p .stride) (p .width) held old) (n .1)));
+          place-is = sym (n .1);
+          kept-is = listed ∙ sym (kept-old (made p c t .key) (keptIn p held old) (made p c t .step x v) (rw (length-values (p .stride) (p .width) held old) (n .0)));
           holds = record { fits = still-holds .fits; roomy = long; values = still-holds .values; marked = number-before };
           apart = apart;
         }

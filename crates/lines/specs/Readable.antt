@@ -14,7 +14,7 @@ use Rattle.paper.specs.Sheets.{lineAt, lineState, lineVector, onSheet, badLine,
 use Rattle.marks.specs.Marks.{markOf}
 use Rattle.marks.specs.Chains.{Chained}
 use Rattle.cells.specs.Shaped.{Shaped}
-use Rattle.tables.specs.Walking.{RowIn}
+use Rattle.rows.specs.RowIn.{RowIn}
 
 -- a checked chart, and line i of the sheet inside the sheet's bytes
 pub record LineIn (c : List ℕ) (s : Shape) (sheet : List ℕ) (i : ℕ) : Type 0 where

@@ -76,6 +76,14 @@ module _ (key : List ℕ → List ℕ) where
   pub place-none : (vs : List (List ℕ)) (v : List ℕ) → place key vs v ≡ length vs → (i : ℕ) → i < length vs → key (getD vs i []) ≡ key v → ⊥
   place-none vs v p i h e = place-first vs v i (omega arith) e
 
+  -- and where no listed value has the key, it stands at none
+  pub place-nowhere : (vs : List (List ℕ)) (v : List ℕ) → ((i : ℕ) → i < length vs → key (getD vs i []) ≡ key v → ⊥) → place key vs v ≡ length vs
+  place-nowhere vs v f = go (decLt (place key vs v) (length vs))
+    where
+      go : Dec (place key vs v < length vs) → place key vs v ≡ length vs
+      go (yes h) = absurd (f (place key vs v) h (place-key vs v h))
+      go (no h) = omega (arith, place-le vs v)
+
   -- a listed value has the key and none before it has: it stands at the place
   pub place-is : (vs : List (List ℕ)) (v : List ℕ) (i : ℕ) → i < length vs → key (getD vs i []) ≡ key v →
       ((j : ℕ) → j < i → key (getD vs j []) ≡ key v → ⊥) → place key vs v ≡ i

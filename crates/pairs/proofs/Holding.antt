@@ -16,7 +16,7 @@ use Rattle.paper.specs.Sheets.{lineState, lineVector, onSheet, gradeHolds, next
 use Rattle.lists.proofs.Tests.{all-at, all-by, all-fails, least, least-is, least-none, both-not-left}
 use Rattle.lists.proofs.ByPlace.{length-tabulate}
 use Rattle.cells.specs.Shaped.{Shaped, Read}
-use Rattle.tables.specs.Walking.{RowIn}
+use Rattle.rows.specs.RowIn.{RowIn}
 use Rattle.vectors.specs.Products.{Grades}
 use Rattle.lines.specs.Readable.{Readable, pairState, pairVector, pairOf, nextState, nextPair}
 use Rattle.lines.proofs.Reading.{length-vector, line-in}

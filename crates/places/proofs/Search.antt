@@ -6,19 +6,41 @@ use Prim.Native.Nat.{ℕ, suc, _+_, _-_, _*_, _/_, _≤_, _<_}
 use native.Mathlib.Nat.{suc-mul, mul-le-mul-right, div-lt-iff-lt-mul, le-div-iff-mul-le}
 use native.Mathlib.Numerals.{add-one}
 use native.Mathlib.Omega.{arith}
-use native.Mathlib.Decide.{decLt}
 use lib.Dec.{leb, ltb}
 use lib.ListN.{length, getD, take, drop, length-take, length-drop}
 use lib.Seq.{getD-take, getD-drop, ext-getD}
-use borrow.Author.Tests.{lt-ltb, le-ltb, le-leb, lt-leb}
-use Rattle.paper.specs.Lists.{both, unless, part, sameList}
+use borrow.Author.Tests.{lt-ltb, le-ltb, le-leb, lt-leb, ltb-true, ltb-false}
+use Rattle.paper.specs.Lists.{both, pick, unless, part, sameList}
 use Rattle.paper.specs.Numbering.{itself, place}
 use Rattle.paper.specs.Builders.{vectorAt}
 use Rattle.lists.proofs.Tests.{both-false}
 use Rattle.lists.proofs.ByPlace.{length-tabulate, getD-tabulate, same-true, same-by, same-false, same-not}
-use Rattle.numbering.proofs.Place.{place-le, place-key, place-is}
+use Rattle.numbering.proofs.Place.{place-is, place-nowhere}
 use Rattle.places.specs.Search.{placeAt, values, placeFor}
 use Rattle.places.specs.declared.Place.{Place}
+
+-- ---- the answer of a search, from the place that it came to and back
+
+pub answered-at : (n j i : ℕ) → j ≡ i → i < n → Place.At i ≡ placeFor n j
+answered-at n j i q l = simp (q, lt-ltb i n l)
+
+pub answered-none : (n j : ℕ) → j ≡ n → Place.Nowhere ≡ placeFor n j
+answered-none n j q = simp (q, le-ltb n n (omega arith))
+
+module _ (n j : ℕ) where
+  pub answer-at : (i : ℕ) → placeFor n j ≡ Place.At i → (j < n) × (j ≡ i)
+  answer-at i h = go (ltb j n) refl h
+    where
+      go : (b : Bool) → ltb j n ≡ b → pick b (Place.At j) Place.Nowhere ≡ Place.At i → (j < n) × (j ≡ i)
+      go true q k = (ltb-true j n q, cc)
+      go false q k = let z : _≡_ {A = ℕ} 0 1 = cc in absurd (omega arith)
+
+  pub answer-none : placeFor n j ≡ Place.Nowhere → n ≤ j
+  answer-none h = go (ltb j n) refl h
+    where
+      go : (b : Bool) → ltb j n ≡ b → pick b (Place.At j) Place.Nowhere ≡ Place.Nowhere → n ≤ j
+      go true q k = let z : _≡_ {A = ℕ} 0 1 = cc in absurd (omega arith)
+      go false q k = ltb-false j n q
 
 -- ---- two runs of w bytes
 
@@ -48,14 +70,6 @@ module _ (xs : List ℕ) (a b w : ℕ) (fa : a + w ≤ length xs) (fb : b + w �
 
 -- ---- the search
 
--- nothing listed has the key
-place-nowhere : (key : List ℕ → List ℕ) (vs : List (List ℕ)) (v : List ℕ) → ((i : ℕ) → i < length vs → key (getD vs i []) ≡ key v → ⊥) → place key vs v ≡ length vs
-place-nowhere key vs v f = go (decLt (place key vs v) (length vs))
-  where
-    go : Dec (place key vs v < length vs) → place key vs v ≡ length vs
-    go (yes h) = absurd (f (place key vs v) h (place-key key vs v h))
-    go (no h) = omega (arith, place-le key vs v)
-
 module _ (stride w held : ℕ) (xs : List ℕ) where
   pub length-values : length (values stride w held xs) ≡ held
   unfolding values
@@ -72,7 +86,7 @@ module _ (stride w held : ℕ) (xs : List ℕ) where
         let p : place itself (values stride w held xs) (placeAt stride w xs held) ≡ s =
         place-is itself (values stride w held xs) (placeAt stride w xs held) s (rw length-values h) (rw (values-at s h) e)
         (λ j l f. passed j l (rw (values-at j (omega arith)) at f)) in
-        simp (p, lt-ltb s held h)
+        answered-at held _ s p h
 
     pub found-none : held ≤ s → Place.Nowhere ≡ placeFor held (place itself (values stride w held xs) (placeAt stride w xs held))
     found-none h =
@@ -82,7 +96,7 @@ module _ (stride w held : ℕ) (xs : List ℕ) where
         let b : j < held = rw length-values at l in
         passed j (omega arith) (rw (values-at j b) at f))
         ∙ length-values in
-        simp (p, le-ltb held held (omega arith))
+        answered-none held _ p
 
 -- the test that the code makes, at a running offset
 module _

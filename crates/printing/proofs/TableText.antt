@@ -18,7 +18,7 @@ use Rattle.paper.specs.Tables.{twoBytes, rowSize, tableFitsChart, capOf}
 use Rattle.pages.specs.Frames.{frame, lineLength}
 use Rattle.pages.specs.Texts.{Filled, printed, rowLine, tableText, tableTextSize, printTable}
 use Rattle.chart.proofs.Checked.{shaped, fits-fine, fits-refused}
-use Rattle.tables.proofs.Rows.{size-parts}
+use Rattle.rows.proofs.Rows.{size-parts}
 use Rattle.card.proofs.Caps.{size-beside}
 use Rattle.printing.specs.Printing.{RowsIn, TableIn, TablePut}
 use Rattle.lists.proofs.Front.{front-more}

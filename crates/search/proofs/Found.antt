@@ -1,20 +1,18 @@
 -- The search by numbers: a kept state whose number differs has another key. Assumes nothing.
 use mathlib.Core.Path.{_≡_, refl, sym, ap, _∙_}
-use mathlib.Core.Bool.{Bool, true, false}
-use mathlib.Core.List.{List, []}
+use mathlib.Core.Bool.{Bool, false}
+use mathlib.Core.List.{List}
 use Prim.Native.Nat.{ℕ, suc, _+_, _-_, _*_, _≤_, _<_}
 use native.Mathlib.Nat.{suc-mul, mul-le-mul-right, mul-le-mul}
 use native.Mathlib.Omega.{arith}
-use native.Mathlib.Decide.{decLt}
 use lib.ListN.{length, getD, take, drop, set, length-set}
 use lib.Seq.{getD-set-other}
-use lib.Dec.{ltb}
-use borrow.Author.Tests.{lt-ltb, le-ltb, ltb-true, ltb-false}
-use Rattle.paper.specs.Lists.{pick, sameList}
+use borrow.Author.Tests.{lt-ltb, le-ltb}
+use Rattle.paper.specs.Lists.{sameList}
 use Rattle.paper.specs.Numbering.{place}
 use Rattle.lists.proofs.ByPlace.{same-not}
-use Rattle.numbering.proofs.Place.{place-le, place-key, place-is}
-use Rattle.places.specs.Search.{placeAt, values, placeFor}
+use Rattle.numbering.proofs.Place.{place-is, place-nowhere}
+use Rattle.places.specs.Search.{placeAt, values}
 use Rattle.places.specs.declared.Place.{Place}
 use Rattle.places.proofs.Search.{length-values, values-at}
 use Rattle.marks.specs.Marks.{markOf}
@@ -28,31 +26,6 @@ use Rattle.kinds.specs.declared.Kind.{Kind}
 use Rattle.kinds.specs.declared.Plan.{Plan}
 use Rattle.kinds.proofs.KindLaws.{own-key, own-size}
 use Rattle.keys.proofs.Keys.{length-key}
-
--- ---- what an answer says of the place
-
-module _ (count i : ℕ) where
-  pub answer-none : placeFor count i ≡ Place.Nowhere → i ≤ count → i ≡ count
-  answer-none e l = go (ltb i count) refl e
-    where
-      go : (t : Bool) → ltb i count ≡ t → pick t (Place.At i) Place.Nowhere ≡ Place.Nowhere → i ≡ count
-      go true q e = let z : _≡_ {A = ℕ} 0 1 = cc in absurd (omega arith)
-      go false q e = omega (arith, ltb-false i count q)
-
-  pub answer-at : (j : ℕ) → placeFor count i ≡ Place.At j → (j ≡ i) × (i < count)
-  answer-at j e = go (ltb i count) refl e
-    where
-      go : (t : Bool) → ltb i count ≡ t → pick t (Place.At i) Place.Nowhere ≡ Place.At j → (j ≡ i) × (i < count)
-      go true q e = (cc, ltb-true i count q)
-      go false q e = let z : _≡_ {A = ℕ} 0 1 = cc in absurd (omega arith)
-
--- nothing listed has the key
-place-nowhere : (key : List ℕ → List ℕ) (vs : List (List ℕ)) (v : List ℕ) → ((i : ℕ) → i < length vs → key (getD vs i []) ≡ key v → ⊥) → place key vs v ≡ length vs
-place-nowhere key vs v f = go (decLt (place key vs v) (length vs))
-  where
-    go : Dec (place key vs v < length vs) → place key vs v ≡ length vs
-    go (yes h) = absurd (f (place key vs v) h (place-key key vs v h))
-    go (no h) = omega (arith, place-le key vs v)
 
 -- the bytes that the code takes at a running offset
 pub taken : (stride w : ℕ) (xs : List ℕ) (s at : ℕ) → at ≡ s * stride → take (at + w - at) (drop at xs) ≡ placeAt stride w xs s

@@ -1,4 +1,4 @@
--- `bench::calls::lace_grade` meets its contract: the number of what `tables::walk::grade` answers. Assumes nothing.
+-- `bench::calls::lace_grade` meets its contract: the number of what `tables::grade` answers. Assumes nothing.
 use borrow.Author.Needs.{needs}
 use mathlib.Core.Path.{ap, _∙_}
 use Rattle.paper.specs.Tables.{gradeCode}

@@ -1,4 +1,4 @@
--- `bench::calls::lace_step` meets its contract: the number of what `tables::walk::step` answers. Assumes nothing.
+-- `bench::calls::lace_step` meets its contract: the number of what `tables::step` answers. Assumes nothing.
 use borrow.Author.Needs.{needs}
 use mathlib.Core.Path.{ap, _∙_}
 use Rattle.paper.specs.Tables.{stepCode}

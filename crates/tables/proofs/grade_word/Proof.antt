@@ -1,10 +1,10 @@
--- `tables::walk::grade_word` meets its contract: each return is what the tests on its way make of `wordReply`.
+-- `tables::grade_word` meets its contract: each return is what the tests on its way make of `wordReply`.
 -- Assumes nothing.
 use borrow.Author.Needs.{needs}
 use Rattle.lists.proofs.Tests.{fell, held}
 use Rattle.tables.proofs.Walks.{word-table, word-letter, word-walkable, word-grade}
-use Rattle.tables.proofs.walk.grade_word.Statement.{statement}
-use Rattle.tables.proofs.walk.grade_word.Tie as tie
+use Rattle.tables.proofs.grade_word.Statement.{statement}
+use Rattle.tables.proofs.grade_word.Tie as tie
 
 table-fits-requires : tie.Need-table-fits-requires
 table-fits-requires c κs = search needs

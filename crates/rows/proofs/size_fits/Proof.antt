@@ -1,4 +1,4 @@
--- `tables::inner::size_fits` meets its contract: each return is what the tests on its way make of `sizeFits`.
+-- `rows::size_fits` meets its contract: each return is what the tests on its way make of `sizeFits`.
 -- Assumes nothing.
 use borrow.Author.Needs.{needs}
 use borrow.Author.Tests.{le-leb, lt-leb}
@@ -7,8 +7,8 @@ use Prim.Native.Nat.{_+_, _*_}
 use Rattle.paper.specs.Lists.{both}
 use Rattle.paper.specs.Tables.{sizeFits}
 use Rattle.lists.proofs.Bound.{product}
-use Rattle.tables.proofs.inner.size_fits.Statement.{statement}
-use Rattle.tables.proofs.inner.size_fits.Tie as tie
+use Rattle.rows.proofs.size_fits.Statement.{statement}
+use Rattle.rows.proofs.size_fits.Tie as tie
 
 returns : tie.Need-returns
 unfolding sizeFits both

@@ -1,10 +1,10 @@
--- `tables::walk::grade` meets its contract: each return is what the tests on its way make of `gradeReply`.
+-- `tables::grade` meets its contract: each return is what the tests on its way make of `gradeReply`.
 -- Assumes nothing.
 use borrow.Author.Needs.{needs}
 use Rattle.lists.proofs.Tests.{fell, held}
-use Rattle.tables.proofs.Rows.{row-in, grade-size, grade-state, grade-row, grade-is}
-use Rattle.tables.proofs.walk.grade.Statement.{statement}
-use Rattle.tables.proofs.walk.grade.Tie as tie
+use Rattle.rows.proofs.Rows.{row-in, grade-size, grade-state, grade-row, grade-is}
+use Rattle.tables.proofs.grade.Statement.{statement}
+use Rattle.tables.proofs.grade.Tie as tie
 
 size-fits-requires : tie.Need-size-fits-requires
 size-fits-requires c κs = search needs

@@ -10,7 +10,7 @@ use lib.Dec.{leb}
 use borrow.Author.Tests.{le-ltb, lt-ltb, leb-true}
 use Rattle.paper.specs.Lists.{both, allBelow}
 use Rattle.paper.specs.Tables.{gradeAt, nextAt, rowSize, nextFits, sizeFits, rowFits, stepReply, gradeReply}
-use Rattle.tables.specs.Walking.{RowIn}
+use Rattle.rows.specs.RowIn.{RowIn}
 use Rattle.lists.proofs.Bound.{row-end}
 use Rattle.lists.proofs.Tests.{both-left, both-right, both-false, all-fails, all-more}
 

@@ -1,9 +1,9 @@
--- `tables::walk::check_table` meets its contract: the table's test decides between the two answers. Assumes nothing.
+-- `tables::check_table` meets its contract: the table's test decides between the two answers. Assumes nothing.
 use borrow.Author.Needs.{needs}
 use Rattle.lists.proofs.Tests.{fell, held}
 use Rattle.tables.proofs.Walks.{table-refused, table-accepted}
-use Rattle.tables.proofs.walk.check_table.Statement.{statement}
-use Rattle.tables.proofs.walk.check_table.Tie as tie
+use Rattle.tables.proofs.check_table.Statement.{statement}
+use Rattle.tables.proofs.check_table.Tie as tie
 
 table-fits-requires : tie.Need-table-fits-requires
 table-fits-requires c κs = search needs

@@ -1,4 +1,4 @@
--- `tables::walk::bad_letter` meets its contract. The loop's invariant: the letters passed are below m.
+-- `tables::bad_letter` meets its contract. The loop's invariant: the letters passed are below m.
 -- Assumes nothing.
 use borrow.Author.Needs.{needs}
 use mathlib.Core.Path.{_≡_, refl}
@@ -8,9 +8,10 @@ use native.Mathlib.Omega.{arith}
 use lib.ListN.{length}
 use Rattle.paper.specs.Lists.{allBelow}
 use Rattle.paper.specs.Tables.{letterFits}
-use Rattle.tables.proofs.Walks.{bad-is, bad-none, more-letter, found-at, found-none}
-use Rattle.tables.proofs.walk.bad_letter.Statement.{statement}
-use Rattle.tables.proofs.walk.bad_letter.Tie as tie
+use Rattle.places.proofs.Search.{answered-at, answered-none}
+use Rattle.tables.proofs.Walks.{bad-is, bad-none, more-letter}
+use Rattle.tables.proofs.bad_letter.Statement.{statement}
+use Rattle.tables.proofs.bad_letter.Tie as tie
 
 abbrev Inv-loop : tie.InvT-loop
 Inv-loop word m i₀ i = (i ≤ length word) × (allBelow i (letterFits word m) ≡ true)
@@ -31,7 +32,7 @@ wide-requires c κs = search needs
 returns : tie.Need-returns Inv-loop μ-loop
 returns c =
     let l = c .before .before .before .before .loop in
-    found-at _ _ (l .i) (bad-is _ _ _ (search needs) (l .inv .1) (omega arith)) (search needs)
+    answered-at _ _ (l .i) (bad-is _ _ _ (search needs) (l .inv .1) (omega arith)) (search needs)
 
 add-i : tie.Need-add-i Inv-loop μ-loop
 add-i c = search needs
@@ -43,7 +44,7 @@ loop-again : tie.Need-loop-again Inv-loop μ-loop
 loop-again c = (search needs, more-letter _ _ _ (c .before .before .before .before .loop .inv .1) (omega arith))
 
 returns-2 : tie.Need-returns-2 Inv-loop μ-loop
-returns-2 c = found-none _ _ (bad-none _ _ (c .before .loop .i) (omega arith) (c .before .loop .inv .1))
+returns-2 c = answered-none _ _ (bad-none _ _ (c .before .loop .i) (omega arith) (c .before .loop .inv .1))
 
 pub bad-letter-spec : {M : Type 1} → statement M
 bad-letter-spec =

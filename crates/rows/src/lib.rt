@@ -2,15 +2,15 @@
 ghost use mathlib.Core.Path.{_≡_};
 ghost use Prim.Native.Nat.{_+_, _*_, _<_};
 ghost use Rattle.paper.specs.Tables.{gradeAt, nextAt, sizeFits, rowFits, tableFits};
-ghost use Rattle.tables.specs.Walking.{RowIn};
+ghost use Rattle.rows.specs.RowIn.{RowIn};
 
-pub(crate) fn wide(x: u8) -> usize
+pub fn wide(x: u8) -> usize
     ensures { λ r. ⌜ (r ≡ x) × (r < 256) ⌝ }
 {
     x as usize
 }
 
-pub(crate) fn size_fits(rows: &[u8], count: usize, m: usize) -> bool
+pub fn size_fits(rows: &[u8], count: usize, m: usize) -> bool
     ensures { λ r. ⌜ r ≡ sizeFits (now (rows .entry)) count m ⌝ }
 {
     if count < 1 {
@@ -42,7 +42,7 @@ pub fn next_at(rows: &[u8], m: usize, s: usize, x: usize) -> usize
     wide(rows[s * (1 + 2 * m) + (1 + 2 * x)]) * 256 + wide(rows[s * (1 + 2 * m) + (2 + 2 * x)])
 }
 
-pub(crate) fn row_fits(rows: &[u8], count: usize, m: usize, top: u8, s: usize) -> bool
+pub fn row_fits(rows: &[u8], count: usize, m: usize, top: u8, s: usize) -> bool
     requires { ⌜ RowIn (now rows) m s ⌝ }
     ensures { λ r. ⌜ r ≡ rowFits (now (rows .entry)) count m top s ⌝ }
 {

@@ -1,4 +1,4 @@
--- `tables::inner::row_fits` meets its contract. The loop's invariant: the next states of the letters passed are below the count.
+-- `rows::row_fits` meets its contract. The loop's invariant: the next states of the letters passed are below the count.
 -- Assumes nothing.
 use mathlib.Core.Path.{_≡_, refl}
 use mathlib.Core.Bool.{true}
@@ -7,9 +7,9 @@ use borrow.Author.Needs.{needs}
 use native.Mathlib.Omega.{arith}
 use Rattle.paper.specs.Lists.{allBelow}
 use Rattle.paper.specs.Tables.{nextFits}
-use Rattle.tables.proofs.Rows.{bad-grade, bad-next, more-next, good-row}
-use Rattle.tables.proofs.inner.row_fits.Statement.{statement}
-use Rattle.tables.proofs.inner.row_fits.Tie as tie
+use Rattle.rows.proofs.Rows.{bad-grade, bad-next, more-next, good-row}
+use Rattle.rows.proofs.row_fits.Statement.{statement}
+use Rattle.rows.proofs.row_fits.Tie as tie
 
 abbrev Inv-loop : tie.InvT-loop
 Inv-loop rows count m top s x₀ x = (x ≤ m) × (allBelow x (nextFits rows count m s) ≡ true)

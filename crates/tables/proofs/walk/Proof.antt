@@ -1,4 +1,4 @@
--- `tables::walk::walk` meets its contract. The loop's invariant: the letters that are left lead from s to where the whole word leads from 0.
+-- `tables::walk` meets its contract. The loop's invariant: the letters that are left lead from s to where the whole word leads from 0.
 -- Assumes nothing.
 use borrow.Author.Needs.{needs}
 use mathlib.Core.Path.{_≡_, refl, _∙_}
@@ -9,8 +9,8 @@ use Rattle.paper.specs.Words.{after}
 use Rattle.paper.specs.Tables.{nextBy}
 use Rattle.tables.specs.Walking.{Walkable}
 use Rattle.tables.proofs.Walks.{walk-more, walk-end, walk-row, walk-letter, walk-below, walk-some}
-use Rattle.tables.proofs.walk.walk.Statement.{statement}
-use Rattle.tables.proofs.walk.walk.Tie as tie
+use Rattle.tables.proofs.walk.Statement.{statement}
+use Rattle.tables.proofs.walk.Tie as tie
 
 abbrev Inv-loop : tie.InvT-loop
 Inv-loop rows count m word s₀ i₀ s i = Walkable rows count m word × (i ≤ length word) × (s < count) × (after (nextBy rows m) s (drop i word) ≡ after (nextBy rows m) 0 word)

@@ -1,10 +1,10 @@
--- `tables::walk::step` meets its contract: each return is what the tests on its way make of `stepReply`.
+-- `tables::step` meets its contract: each return is what the tests on its way make of `stepReply`.
 -- Assumes nothing.
 use borrow.Author.Needs.{needs}
 use Rattle.lists.proofs.Tests.{fell, held}
-use Rattle.tables.proofs.Rows.{row-in, step-size, step-state, step-letter, step-row, step-next}
-use Rattle.tables.proofs.walk.step.Statement.{statement}
-use Rattle.tables.proofs.walk.step.Tie as tie
+use Rattle.rows.proofs.Rows.{row-in, step-size, step-state, step-letter, step-row, step-next}
+use Rattle.tables.proofs.step.Statement.{statement}
+use Rattle.tables.proofs.step.Tie as tie
 
 size-fits-requires : tie.Need-size-fits-requires
 size-fits-requires c κs = search needs

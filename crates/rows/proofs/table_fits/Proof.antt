@@ -1,4 +1,4 @@
--- `tables::inner::table_fits` meets its contract. The loop's invariant: the rows passed fit.
+-- `rows::table_fits` meets its contract. The loop's invariant: the rows passed fit.
 -- Assumes nothing.
 use borrow.Author.Needs.{needs}
 use mathlib.Core.Path.{_≡_, refl}
@@ -8,10 +8,10 @@ use native.Mathlib.Omega.{arith}
 use Rattle.paper.specs.Lists.{allBelow}
 use Rattle.paper.specs.Tables.{sizeFits, rowFits}
 use Rattle.lists.proofs.Tests.{fell, held, all-more}
-use Rattle.tables.proofs.Rows.{row-in}
-use Rattle.tables.proofs.Walks.{table-size, table-row, table-good}
-use Rattle.tables.proofs.inner.table_fits.Statement.{statement}
-use Rattle.tables.proofs.inner.table_fits.Tie as tie
+use Rattle.rows.proofs.Rows.{row-in}
+use Rattle.rows.proofs.TableTest.{table-size, table-row, table-good}
+use Rattle.rows.proofs.table_fits.Statement.{statement}
+use Rattle.rows.proofs.table_fits.Tie as tie
 
 abbrev Inv-loop : tie.InvT-loop
 Inv-loop rows count m top s₀ s = (s ≤ count) × (sizeFits rows count m ≡ true) × (allBelow s (rowFits rows count m top) ≡ true)
