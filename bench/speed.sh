@@ -4,6 +4,6 @@ set -eu
 cd "$(dirname "$0")/.."
 out=target/c
 mkdir -p "$out"
-rt staticlib bench >"$out/staticlib.log" 2>&1 || { tail -n 20 "$out/staticlib.log" >&2; exit 1; }
-gcc -std=c11 -O3 -Wall -Wextra -Werror -I include bench/speed.c target/staticlib/libbench.a -o "$out/speed"
+rt staticlib lace >"$out/staticlib.log" 2>&1 || { tail -n 20 "$out/staticlib.log" >&2; exit 1; }
+gcc -std=c11 -O3 -Wall -Wextra -Werror -I include bench/speed.c target/staticlib/liblace.a -o "$out/speed"
 "$out/speed"

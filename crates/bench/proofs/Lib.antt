@@ -1,6 +1,4 @@
 pub mod Lent
 pub mod Made
-pub mod Numbers
-pub mod Rows
-pub mod Told
+pub mod States
 pub mod Words

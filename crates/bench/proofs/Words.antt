@@ -17,7 +17,7 @@ use Rattle.paper.proofs.Said.{graded-one}
 use Rattle.lists.proofs.Tests.{unless-passed, all-at, least-all}
 use Rattle.rows.proofs.Rows.{size-parts, step-next, grade-is}
 use Rattle.rows.proofs.TableTest.{table-parts}
-use Rattle.bench.proofs.Rows.{row-next}
+use Rattle.rows.proofs.Rows.{row-next}
 
 -- ---- one letter more, and the end, for any way of taking letters
 
@@ -41,7 +41,7 @@ module _ (rows : List ℕ) (count m : ℕ) (fits : tableFits rows count m gradeT
 
   next-below : (s x : ℕ) → s < count → x < m → nextBy rows m x s < count
   unfolding nextBy
-  next-below s x l h = row-next rows count m s (row s l) x h
+  next-below s x l h = row-next rows count m gradeTop s (row s l) x h
 
   takes-next : (s x : ℕ) → s < count → x < m → readerTakes rows count m x s ≡ nextBy rows m x s
   unfolding readerTakes stateAfter nextBy

@@ -6,13 +6,13 @@ use Rattle.paper.specs.Replies.{Reply}
 use Prim.Native.Nat.{ℕ, _+_, _*_, _≤_, _<_}
 use native.Mathlib.Omega.{arith}
 use lib.ListN.{length}
-use lib.Dec.{leb}
-use borrow.Author.Tests.{le-ltb, lt-ltb, leb-true}
+use lib.Dec.{leb, ltb}
+use borrow.Author.Tests.{le-ltb, lt-ltb, ltb-true, leb-true}
 use Rattle.paper.specs.Lists.{both, allBelow}
 use Rattle.paper.specs.Tables.{gradeAt, nextAt, rowSize, nextFits, sizeFits, rowFits, stepReply, gradeReply}
 use Rattle.rows.specs.RowIn.{RowIn}
 use Rattle.lists.proofs.Bound.{row-end}
-use Rattle.lists.proofs.Tests.{both-left, both-right, both-false, all-fails, all-more}
+use Rattle.lists.proofs.Tests.{both-left, both-right, both-false, all-at, all-fails, all-more}
 
 module _ (rows : List ℕ) (count m top s : ℕ) where
   -- the grade is too high
@@ -100,3 +100,13 @@ module _ (rows : List ℕ) (count m s : ℕ) where
     pub grade-is : s < count → rowFits rows count m 16 s ≡ true → (r : ℕ) → r ≡ gradeAt rows m s → _≡_ {A = Reply} (0, r ∷ []) (gradeReply rows count m s)
     unfolding gradeReply
     grade-is l f r q = simp (gradeReply, e, lt-ltb s count l, f, q)
+
+-- what a row that fits says of its grade and its next states
+module _ (rows : List ℕ) (count m top s : ℕ) (fits : rowFits rows count m top s ≡ true) where
+  pub row-grade : gradeAt rows m s < top
+  unfolding rowFits
+  row-grade = ltb-true _ _ (both-left _ (allBelow m (nextFits rows count m s)) fits)
+
+  pub row-next : (x : ℕ) → x < m → nextAt rows m s x < count
+  unfolding rowFits nextFits
+  row-next x h = ltb-true _ _ (all-at (nextFits rows count m s) m (both-right (ltb (gradeAt rows m s) top) _ fits) x h)

@@ -7,20 +7,19 @@ use native.Mathlib.Numerals.{add-one}
 use native.Mathlib.Omega.{arith}
 use lib.ListN.{length, getD, drop}
 use lib.Seq.{drop-cons, drop-length}
-use lib.Dec.{ltb}
 use borrow.Author.Tests.{le-ltb, lt-ltb, le-leb, lt-leb, ltb-true}
 use Rattle.paper.specs.Lists.{allBelow}
 use Rattle.paper.specs.Replies.{Reply}
 use Rattle.paper.specs.Words.{after}
-use Rattle.paper.specs.Tables.{gradeAt, nextAt, nextFits, rowFits, tableFits, nextBy, stateOf, tableGrade, letterFits, badLetter, wordReply, gradeTop, tableReply}
+use Rattle.paper.specs.Tables.{gradeAt, nextAt, rowFits, tableFits, nextBy, stateOf, tableGrade, letterFits, badLetter, wordReply, gradeTop, tableReply}
 use Rattle.rows.specs.RowIn.{RowIn}
 use Rattle.tables.specs.Walking.{Walkable}
 use Rattle.places.specs.Search.{placeFor}
 use Rattle.places.specs.declared.Place.{Place}
 use Rattle.places.proofs.Search.{answer-at, answer-none}
 use Rattle.rows.proofs.TableTest.{table-parts}
-use Rattle.lists.proofs.Tests.{both-right, all-at, all-by, all-more, least-none, least-is, least-all}
-use Rattle.rows.proofs.Rows.{row-in, size-parts}
+use Rattle.lists.proofs.Tests.{all-at, all-by, all-more, least-none, least-is, least-all}
+use Rattle.rows.proofs.Rows.{row-in, row-next, size-parts}
 
 -- what checking a table answers
 module _ (rows : List ℕ) (count m : ℕ) where
@@ -52,14 +51,9 @@ module _ (rows : List ℕ) (count m : ℕ) (word : List ℕ) (w : Walkable rows 
   walk-letter i l = ltb-true _ _ (all-at (letterFits word m) (length word) (w .letters) i l)
 
   pub walk-below : (s i x s′ : ℕ) → s < count → i < length word → x ≡ getD word i 0 → s′ ≡ nextAt rows m s x → s′ < count
-  unfolding rowFits nextFits
   walk-below s i x s′ l k q r =
       rw (r, q)
-      (ltb-true _ _
-      (all-at (nextFits rows count m s) m
-      (both-right (ltb (gradeAt rows m s) 16) (allBelow m (nextFits rows count m s)) (all-at (rowFits rows count m 16) count (table-parts rows count m 16 (w .table) .1) s l))
-      (getD word i 0)
-      (walk-letter i k)))
+      (row-next rows count m 16 s (all-at (rowFits rows count m 16) count (table-parts rows count m 16 (w .table) .1) s l) (getD word i 0) (walk-letter i k))
 
   pub walk-some : 0 < count
   walk-some = size-parts rows count m (table-parts rows count m 16 (w .table) .0) .0

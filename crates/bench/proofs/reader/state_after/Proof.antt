@@ -1,6 +1,6 @@
 -- `bench::reader::state_after` meets its contract: each arm is the state of its case. Assumes nothing.
 use borrow.Author.Needs.{needs}
-use Rattle.bench.proofs.Numbers.{state-given, state-refused}
+use Rattle.bench.proofs.States.{state-given, state-refused}
 use Rattle.bench.proofs.reader.state_after.Statement.{statement}
 use Rattle.bench.proofs.reader.state_after.Tie as tie
 

@@ -1,10 +1,10 @@
--- The numbers that the C calls answer and the state that a letter leaves, case by case of an answer. Assumes nothing.
+-- The numbers that the C calls answer, case by case of an answer. Assumes nothing.
 use mathlib.Core.Path.{_≡_, refl}
 use mathlib.Core.List.{List, [], _∷_}
 use Prim.Native.Nat.{ℕ}
 use types.Run.{OneOf, miss}
 use denote.Enum.Declared.{tagOf}
-use Rattle.paper.specs.Tables.{gradeCode, stepCode, stateAfter}
+use Rattle.paper.specs.Tables.{gradeCode, stepCode}
 use Rattle.paper.specs.Replies.{said, steppedSaid, gradedSaid}
 use Rattle.paper.specs.declared.Refusal.{Refusal}
 use Rattle.paper.specs.declared.Refusal.the-variants.{Sizes, Short, Grade, Law, Room, Reverse, States, Letter, Table, Sheet, Start, Line, Next, Text}
@@ -58,14 +58,3 @@ module _ (answer : Stepped) where
 
   pub step-other : (why : Refusal) → answer ≡ Stepped.Refused why → OneOf others (tagOf R.the-type why) → _≡_ {A = ℕ} 65535 (stepCode (steppedSaid answer))
   step-other why e k = rw e (said-other why k)
-
--- ---- the state that a letter leaves
-
-module _ (s : ℕ) (answer : Stepped) where
-  pub state-given : (next : ℕ) → answer ≡ Stepped.Next next → next ≡ stateAfter s (steppedSaid answer)
-  unfolding stateAfter
-  state-given next e = rw e
-
-  pub state-refused : (why : Refusal) → answer ≡ Stepped.Refused why → s ≡ stateAfter s (steppedSaid answer)
-  unfolding stateAfter
-  state-refused why e = rw (e, said-refuses why)

@@ -1,9 +1,9 @@
--- `bench::calls::lace_step` meets its contract: the number of what `tables::step` answers. Assumes nothing.
+-- `lace::lace_step` meets its contract: the number of what `tables::step` answers. Assumes nothing.
 use borrow.Author.Needs.{needs}
 use mathlib.Core.Path.{ap, _∙_}
 use Rattle.paper.specs.Tables.{stepCode}
-use Rattle.bench.proofs.calls.lace_step.Statement.{statement}
-use Rattle.bench.proofs.calls.lace_step.Tie as tie
+use Rattle.lace.proofs.lace_step.Statement.{statement}
+use Rattle.lace.proofs.lace_step.Tie as tie
 
 step-requires : tie.Need-step-requires
 step-requires c κs = search needs

@@ -1,8 +1,8 @@
--- `bench::calls::step_number` meets its contract: each arm is the number of its case. Assumes nothing.
+-- `lace::step_number` meets its contract: each arm is the number of its case. Assumes nothing.
 use borrow.Author.Needs.{needs}
-use Rattle.bench.proofs.Numbers.{step-given, step-letter, step-other}
-use Rattle.bench.proofs.calls.step_number.Statement.{statement}
-use Rattle.bench.proofs.calls.step_number.Tie as tie
+use Rattle.lace.proofs.Numbers.{step-given, step-letter, step-other}
+use Rattle.lace.proofs.step_number.Statement.{statement}
+use Rattle.lace.proofs.step_number.Tie as tie
 
 enum-known-answer : tie.Need-enum-known-answer
 enum-known-answer c = search needs

@@ -1,9 +1,9 @@
--- `bench::calls::lace_grade` meets its contract: the number of what `tables::grade` answers. Assumes nothing.
+-- `lace::lace_grade` meets its contract: the number of what `tables::grade` answers. Assumes nothing.
 use borrow.Author.Needs.{needs}
 use mathlib.Core.Path.{ap, _∙_}
 use Rattle.paper.specs.Tables.{gradeCode}
-use Rattle.bench.proofs.calls.lace_grade.Statement.{statement}
-use Rattle.bench.proofs.calls.lace_grade.Tie as tie
+use Rattle.lace.proofs.lace_grade.Statement.{statement}
+use Rattle.lace.proofs.lace_grade.Tie as tie
 
 grade-requires : tie.Need-grade-requires
 grade-requires c κs = search needs

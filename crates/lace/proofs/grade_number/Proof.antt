@@ -1,8 +1,8 @@
--- `bench::calls::grade_number` meets its contract: each arm is the number of its case. Assumes nothing.
+-- `lace::grade_number` meets its contract: each arm is the number of its case. Assumes nothing.
 use borrow.Author.Needs.{needs}
-use Rattle.bench.proofs.Numbers.{grade-given, grade-refused}
-use Rattle.bench.proofs.calls.grade_number.Statement.{statement}
-use Rattle.bench.proofs.calls.grade_number.Tie as tie
+use Rattle.lace.proofs.Numbers.{grade-given, grade-refused}
+use Rattle.lace.proofs.grade_number.Statement.{statement}
+use Rattle.lace.proofs.grade_number.Tie as tie
 
 enum-known-answer : tie.Need-enum-known-answer
 enum-known-answer c = search needs

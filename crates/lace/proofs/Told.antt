@@ -10,8 +10,8 @@ use Rattle.paper.specs.Lists.{unless}
 use Rattle.paper.specs.Replies.{Reply}
 use Rattle.paper.specs.Tables.{gradeAt, nextAt, gradeTop, rowFits, sizeFits, stepReply, gradeReply, stepCode, gradeCode}
 use Rattle.rows.proofs.Rows.{size-parts}
-use Rattle.bench.proofs.Rows.{row-grade, row-next}
-use Rattle.bench.specs.Bench.{stepTold, gradeTold}
+use Rattle.rows.proofs.Rows.{row-grade, row-next}
+use Rattle.lace.specs.Told.{stepTold, gradeTold}
 
 -- what holds of the refusal, and of the rest where the test passes, holds of the choice
 unless-case : {X : Type 0} (P : X → Type 0) (b : Bool) (x y : X) → P x → (b ≡ true → P y) → P (unless b x y)
@@ -40,7 +40,7 @@ unfolding gradeReply
 grade-told rows count m s =
     unless-case GradeTells (sizeFits rows count m) _ _ grade-refused (λ _.
     unless-case GradeTells (ltb s count) _ _ grade-refused (λ _.
-    unless-case GradeTells (rowFits rows count m gradeTop s) _ _ grade-refused (λ e. grade-given (gradeAt rows m s) (row-grade rows count m s e))))
+    unless-case GradeTells (rowFits rows count m gradeTop s) _ _ grade-refused (λ e. grade-given (gradeAt rows m s) (row-grade rows count m gradeTop s e))))
 
 -- ---- steps
 
@@ -66,4 +66,4 @@ step-told rows count m s x =
     unless-case StepTells (ltb s count) _ _ step-refused (λ _.
     unless-case StepTells (ltb x m) _ _ step-letter (λ l.
     unless-case StepTells (rowFits rows count m gradeTop s) _ _ step-refused (λ row.
-    step-given (nextAt rows m s x) (omega (arith, size-parts rows count m size .1, row-next rows count m s row x (ltb-true x m l)))))))
+    step-given (nextAt rows m s x) (omega (arith, size-parts rows count m size .1, row-next rows count m gradeTop s row x (ltb-true x m l)))))))
