@@ -1,3 +1,2 @@
 mod FirstBroken
-mod LawTests
 mod Tries

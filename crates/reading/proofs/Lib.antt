@@ -1,3 +1,2 @@
-pub mod Dues
 pub mod Loop
 pub mod Whole

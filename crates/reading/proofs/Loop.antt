@@ -15,15 +15,16 @@ use Rattle.paper.specs.Lists.{pick, inFront}
 use Rattle.paper.specs.Chart.{headSize}
 use Rattle.pages.specs.Frames.{byteAt, lineLength, payload, frameFits}
 use Rattle.pages.specs.Texts.{Lines, badLine, linesOf, widthOf, duesFrom, linesFrom, chartMost}
-use Rattle.reading.specs.declared.Counts.{Counts}
-use Rattle.reading.specs.declared.Rule.{Rule}
-use Rattle.reading.specs.declared.Cursor.{Cursor}
+use Rattle.dues.specs.declared.Counts.{Counts}
+use Rattle.dues.specs.declared.Rule.{Rule}
+use Rattle.dues.specs.declared.Cursor.{Cursor}
 use Rattle.frames.specs.Lines.{FrameIn}
-use Rattle.reading.specs.Reading.{Ruled, Stepping, behindLine, RestIn, restLines, ChartRead}
+use Rattle.dues.specs.Dues.{Ruled, Stepping, behindLine}
+use Rattle.reading.specs.Reading.{RestIn, restLines, ChartRead}
 use Rattle.lists.proofs.Lent.{length-inFront}
 use Rattle.lists.proofs.Front.{front-more}
 use Rattle.frames.proofs.FrameRead.{bad-kind, frame-inside, length-payload}
-use Rattle.reading.proofs.Dues.{restDues, rest-line, rest-next, rest-end, lines-over, lines-some, bytesDue, bytes-few}
+use Rattle.dues.proofs.Dues.{restDues, rest-line, rest-next, rest-end, lines-over, lines-some, bytesDue, bytes-few}
 
 -- the lines of ds are due at a line and a place of the text, behind the bytes in front of the buffer; all in all they come to `total`
 pub record Reading (text : List ℕ) (total : Lines) (old buf : List ℕ) (ds : List (ℕ × ℕ)) (line pos at : ℕ) : Type 0 where

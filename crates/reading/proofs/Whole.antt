@@ -19,10 +19,11 @@ use Rattle.pages.specs.Frames.{payload, frameFits}
 use Rattle.pages.specs.Texts.{Filled, Lines, badLine, badHead, widthOf, dues, linesAfter, textMost, chartMost, linesOfText, chartRead, linesRead, readChart}
 use Rattle.chart.proofs.Ranges.{sizes-are}
 use Rattle.chart.proofs.Checked.{shaped, fits-fine, fits-refused}
-use Rattle.reading.specs.declared.Counts.{Counts}
-use Rattle.reading.specs.declared.Rule.{Rule}
+use Rattle.dues.specs.declared.Counts.{Counts}
+use Rattle.dues.specs.declared.Rule.{Rule}
 use Rattle.reading.specs.declared.Frames.{Frames}
-use Rattle.reading.specs.Reading.{Ruled, RestIn, restLines, ChartRead, LinesSay, zeroedBy}
+use Rattle.dues.specs.Dues.{Ruled}
+use Rattle.reading.specs.Reading.{RestIn, restLines, ChartRead, LinesSay, zeroedBy}
 use Rattle.lists.proofs.Lent.{length-inFront}
 use Rattle.lists.proofs.Front.{front-front}
 use Rattle.frames.proofs.FrameRead.{frame-inside, length-payload}

@@ -1,6 +1,10 @@
 // Reading a chart's text.
 use chart::check;
 use chart::sizes::sizes_fit;
+use dues::Counts;
+use dues::Cursor;
+use dues::behind;
+use dues::rule_of;
 use frames::digits::byte_at;
 use frames::read_frame;
 use lists::zero;
@@ -12,103 +16,18 @@ ghost use Prim.Native.Nat.{_≤_};
 ghost use lib.ListN.{length};
 ghost use Rattle.paper.specs.Replies.{writtenSaid};
 ghost use Rattle.pages.specs.Texts.{Filled, chartMost, linesOfText, linesRead, readChart};
-ghost use Rattle.reading.specs.Reading.{Few, Ruled, Stepping, behindLine, RestIn, restLines, LinesSay, zeroedBy};
+ghost use Rattle.reading.specs.Reading.{RestIn, restLines, LinesSay, zeroedBy};
 
 // A text has at most so many bytes, and so has a chart.
 const TEXT_MOST: usize = 22493;
 
 const CHART_MOST: usize = 9780;
 
-// The sizes that decide how many lines a chart has, and how long they are.
-pub struct Counts {
-    pub k: usize,
-    pub n: usize,
-    pub m: usize,
-}
-
-// What a kind of frame asks for: its payload's length, how many lines of it there are, and the kind due after them.
-pub struct Rule {
-    pub width: usize,
-    pub lines: usize,
-    pub next: usize,
-}
-
-// Where reading stands: the kind due and how many lines of it are left; the line, from 1, and where it begins in the text; where its
-// bytes go in the chart.
-pub struct Cursor {
-    pub kind: usize,
-    pub left: usize,
-    pub line: usize,
-    pub pos: usize,
-    pub at: usize,
-}
-
 // What reading lines comes to: a chart's bytes, so many of them; the first line that is not the frame due there; a head out of range.
 pub enum Frames {
     Chart(usize),
     BadLine(usize),
     BadHead,
-}
-
-// The kind decides how long the payload is, how many lines there are, and which kind is due next. Behind 06 nothing is due.
-fn rule_of(kind: usize, counts: Counts) -> Rule
-    requires { ⌜ (1 ≤ kind) × (kind ≤ 7) × Few counts ⌝ }
-    ensures { λ r. ⌜ Ruled counts kind r ⌝ }
-{
-    match kind {
-        1 => Rule {
-            width: 4,
-            lines: 1,
-            next: 2,
-        },
-        2..=3 => Rule {
-            width: counts.k,
-            lines: counts.k,
-            next: kind + 1,
-        },
-        4..=5 => Rule {
-            width: counts.n,
-            lines: 1,
-            next: kind + 1,
-        },
-        6 => Rule {
-            width: counts.n,
-            lines: counts.m * counts.n,
-            next: 7,
-        },
-        _ => Rule {
-            width: counts.n,
-            lines: 0,
-            next: 8,
-        },
-    }
-}
-
-// Where reading stands behind the line at a cursor: at the next line of its kind, or behind the last at the first of the next kind.
-fn behind(cursor: Cursor, due: Rule, counts: Counts) -> Cursor
-    requires { ⌜ Stepping cursor due counts ⌝ }
-    ensures { λ r. ⌜ r ≡ behindLine counts cursor ⌝ }
-{
-    let line = cursor.line + 1;
-    let pos = cursor.pos + (7 + 2 * due.width);
-    let at = cursor.at + due.width;
-    if 1 < cursor.left {
-        return Cursor {
-            kind: cursor.kind,
-            left: cursor.left - 1,
-            line: line,
-            pos: pos,
-            at: at,
-        };
-    }
-    let next = rule_of(due.next, counts);
-    Cursor {
-        kind: due.next,
-        left: next.lines,
-        line: line,
-        pos: pos,
-        at: at,
-    }
 }
 
 // The lines of kinds 02 to 06, to their places of the chart.

@@ -19,7 +19,7 @@ use Rattle.lists.proofs.Bound.{le-or-lt, product}
 use Rattle.texts.specs.ChartText.{framesOf, textOf}
 use Rattle.frames.proofs.FrameWritten.{length-frame}
 use Rattle.texts.proofs.FrameBack.{Bytes, frame-read, payload-read}
-use Rattle.reading.proofs.Dues.{bytesDue, bytes-replicate}
+use Rattle.dues.proofs.Dues.{bytesDue, bytes-replicate}
 use Rattle.texts.proofs.TextBack.{dues-same, text-back}
 
 -- ---- one line

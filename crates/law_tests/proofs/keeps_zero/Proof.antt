@@ -1,8 +1,8 @@
--- `laws::keeps_zero` meets its contract. Assumes nothing.
-use Rattle.laws.proofs.LawTests.{zero-passes, zero-fails}
+-- `law_tests::keeps_zero` meets its contract. Assumes nothing.
+use Rattle.law_tests.proofs.LawTests.{zero-passes, zero-fails}
 use borrow.Author.Needs.{needs}
-use Rattle.laws.proofs.keeps_zero.Statement.{statement}
-use Rattle.laws.proofs.keeps_zero.Tie as tie
+use Rattle.law_tests.proofs.keeps_zero.Statement.{statement}
+use Rattle.law_tests.proofs.keeps_zero.Tie as tie
 
 prod-requires : tie.Need-prod-requires
 prod-requires c κs = search needs

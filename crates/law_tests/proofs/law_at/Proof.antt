@@ -1,4 +1,4 @@
--- `laws::law_at` meets its contract, arm by arm. Assumes nothing.
+-- `law_tests::law_at` meets its contract, arm by arm. Assumes nothing.
 use mathlib.Core.Path.{ap, ap₂}
 use Prim.Native.Nat.{_≤_}
 use native.Mathlib.Omega.{arith}
@@ -6,10 +6,10 @@ use lib.Dec.{eqb}
 use denote.Ref.{now}
 use Rattle.paper.specs.Chart.{join, prod}
 use Rattle.paper.specs.Check.{laws, lawAt}
-use Rattle.laws.proofs.LawTests.{law-by, law-none, associates}
+use Rattle.law_tests.proofs.LawTests.{law-by, law-none, associates}
 use borrow.Author.Needs.{needs}
-use Rattle.laws.proofs.law_at.Statement.{statement}
-use Rattle.laws.proofs.law_at.Tie as tie
+use Rattle.law_tests.proofs.law_at.Statement.{statement}
+use Rattle.law_tests.proofs.law_at.Tie as tie
 
 join-requires : tie.Need-join-requires
 join-requires c κs = let p = c .before .before .pre in (p .0, p .1, p .1)

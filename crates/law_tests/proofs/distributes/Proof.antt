@@ -1,8 +1,8 @@
--- `laws::distributes` meets its contract. Assumes nothing.
-use Rattle.laws.proofs.LawTests.{distributes-passes, distributes-fails}
+-- `law_tests::distributes` meets its contract. Assumes nothing.
+use Rattle.law_tests.proofs.LawTests.{distributes-passes, distributes-fails}
 use borrow.Author.Needs.{needs}
-use Rattle.laws.proofs.distributes.Statement.{statement}
-use Rattle.laws.proofs.distributes.Tie as tie
+use Rattle.law_tests.proofs.distributes.Statement.{statement}
+use Rattle.law_tests.proofs.distributes.Tie as tie
 
 join-requires : tie.Need-join-requires
 join-requires c κs = search needs

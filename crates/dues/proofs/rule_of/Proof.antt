@@ -1,12 +1,12 @@
--- `reading::rule_of` meets its contract: each arm is what `widthOf` and `linesOf` say of its kinds.
+-- `dues::rule_of` meets its contract: each arm is what `widthOf` and `linesOf` say of its kinds.
 -- Assumes nothing.
 use borrow.Author.Needs.{needs}
 use mathlib.Core.Path.{refl}
 use native.Mathlib.Omega.{arith}
 use Rattle.lists.proofs.Bound.{product}
-use Rattle.reading.proofs.Dues.{rule-head, rule-grades, rule-vector, rule-matrix, rule-none}
-use Rattle.reading.proofs.rule_of.Statement.{statement}
-use Rattle.reading.proofs.rule_of.Tie as tie
+use Rattle.dues.proofs.Dues.{rule-head, rule-grades, rule-vector, rule-matrix, rule-none}
+use Rattle.dues.proofs.rule_of.Statement.{statement}
+use Rattle.dues.proofs.rule_of.Tie as tie
 
 mul-t4 : tie.Need-mul-t4
 mul-t4 c =

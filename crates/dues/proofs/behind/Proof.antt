@@ -1,9 +1,9 @@
--- `reading::behind` meets its contract: one more line of the kind, or the first of the next.
+-- `dues::behind` meets its contract: one more line of the kind, or the first of the next.
 -- Assumes nothing.
 use borrow.Author.Needs.{needs}
-use Rattle.reading.proofs.Dues.{behind-line, behind-last}
-use Rattle.reading.proofs.behind.Statement.{statement}
-use Rattle.reading.proofs.behind.Tie as tie
+use Rattle.dues.proofs.Dues.{behind-line, behind-last}
+use Rattle.dues.proofs.behind.Statement.{statement}
+use Rattle.dues.proofs.behind.Tie as tie
 
 add-line : tie.Need-add-line
 add-line c = search needs

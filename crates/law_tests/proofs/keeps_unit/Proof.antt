@@ -1,8 +1,8 @@
--- `laws::keeps_unit` meets its contract. Assumes nothing.
-use Rattle.laws.proofs.LawTests.{unit-passes, unit-fails}
+-- `law_tests::keeps_unit` meets its contract. Assumes nothing.
+use Rattle.law_tests.proofs.LawTests.{unit-passes, unit-fails}
 use borrow.Author.Needs.{needs}
-use Rattle.laws.proofs.keeps_unit.Statement.{statement}
-use Rattle.laws.proofs.keeps_unit.Tie as tie
+use Rattle.law_tests.proofs.keeps_unit.Statement.{statement}
+use Rattle.law_tests.proofs.keeps_unit.Tie as tie
 
 cast-e : tie.Need-cast-e
 cast-e c = search needs

@@ -15,10 +15,10 @@ use Rattle.paper.specs.Chart.{headSize}
 use Rattle.pages.specs.Frames.{lineLength}
 use Rattle.pages.specs.Texts.{linesOf, widthOf, duesFrom, chartMost}
 use Rattle.lists.proofs.Bound.{product}
-use Rattle.reading.specs.declared.Counts.{Counts}
-use Rattle.reading.specs.declared.Rule.{Rule}
-use Rattle.reading.specs.declared.Cursor.{Cursor}
-use Rattle.reading.specs.Reading.{Few, Ruled, Stepping, behindLine}
+use Rattle.dues.specs.declared.Counts.{Counts}
+use Rattle.dues.specs.declared.Rule.{Rule}
+use Rattle.dues.specs.declared.Cursor.{Cursor}
+use Rattle.dues.specs.Dues.{Few, Ruled, Stepping, behindLine}
 
 -- ---- what each kind asks for
 module _ (s : Counts) (kind : ℕ) (r : Rule) (n : r .next ≡ kind + 1) where
