@@ -11,6 +11,7 @@ use borrow.Author.Tests.{eqb-true, eq-eqb, ltb-true, leb-true}
 use Rattle.paper.specs.Lists.{both, unless}
 use Rattle.paper.specs.Replies.{Reply, fine}
 use Rattle.paper.specs.Chart.{headSize, kOf, eOf, nOf, mOf, letters, joinFrom, prodFrom, startFrom, endFrom, matrixFrom, chartSize, join, prod, gradeFrom, entry}
+use Rattle.algebra.specs.Sizes.{Sizes}
 use Rattle.paper.specs.Check.{sizesFit, headFits, gradeFits, gradesFit, laws, lawAt, lawAtTwo, lawAtOne, lawHolds, brokenLaw, brokenAt, shapeOf, checkReply, chartFits}
 use Rattle.lists.proofs.Tests.{not-both, both-left, both-right, both-split, unless-told, unless-passed, all-at, least-all}
 
@@ -65,15 +66,6 @@ module _ (c : List ℕ) where
   check-passed rest e = unless-told (λ (r : Reply). r .0 ≡ 0) (chartFits c) (checkReply c) rest (λ q n. not-both (number-fits n) q) e
 
 -- ---- sizes
-
-pub record Sizes (k e n m : ℕ) : Type 0 where
-  pub k-low : 2 ≤ k
-  pub k-high : k ≤ 16
-  pub e-low : e < k
-  pub n-low : 1 ≤ n
-  pub n-high : n ≤ 24
-  pub m-low : 1 ≤ m
-  pub m-high : m ≤ 16
 
 pub sizes : (k e n m : ℕ) → sizesFit k e n m ≡ true → Sizes k e n m
 unfolding sizesFit

@@ -7,7 +7,7 @@ use native.Mathlib.Omega.{arith}
 use lib.Arith.{digits-lt}
 use lib.ListN.{length, getD}
 use Rattle.paper.specs.declared.Shape.{Shape}
-use Rattle.paper.specs.Chart.{headSize, letters, startFrom, endFrom, join, prod, gradeFrom, entry}
+use Rattle.paper.specs.Chart.{headSize, letters, join, prod, entry}
 use Rattle.cells.specs.Shaped.{Shaped, Read}
 
 -- `value` stands at `at`: within the chart, and a grade below k
@@ -32,12 +32,6 @@ module _ {c : List ℕ} {s : Shape} (h : Shaped c s) where
   prod-lies : Lies s (s .prod) (s .k * s .k)
   prod-lies = record { behind = omega arith; ends = rw (h .prod-is, h .size-is, h .k-is) (omega arith) }
 
-  start-lies : Lies s (s .start) (s .n)
-  start-lies = record { behind = omega arith; ends = omega arith }
-
-  end-lies : Lies s (s .end) (s .n)
-  end-lies = record { behind = omega arith; ends = omega arith }
-
   matrix-lies : Lies s (s .matrix) (s .letters * s .n * s .n)
   unfolding letters
   matrix-lies = record { behind = omega arith; ends = rw (h .matrix-is, h .size-is, h .letters-is, h .n-is) (omega arith) }
@@ -54,14 +48,6 @@ module _ {c : List ℕ} {s : Shape} (h : Shaped c s) where
   pub prod-stands : {a b : ℕ} → a < s .k → b < s .k → Stands c (s .k) (s .prod + (a * s .k + b)) (prod c a b)
   unfolding prod
   prod-stands p q = stands prod-lies (digits-lt p q) (rw (h .prod-is, h .k-is))
-
-  pub start-stands : {p : ℕ} → p < s .n → Stands c (s .k) (s .start + p) (gradeFrom c (startFrom c) p)
-  unfolding gradeFrom
-  start-stands p = stands start-lies p (rw (h .start-is))
-
-  pub end-stands : {p : ℕ} → p < s .n → Stands c (s .k) (s .end + p) (gradeFrom c (endFrom c) p)
-  unfolding gradeFrom
-  end-stands p = stands end-lies p (rw (h .end-is))
 
   pub entry-stands : {x p q : ℕ} → x < s .letters → p < s .n → q < s .n → Stands c (s .k) (s .matrix + ((x * s .n + p) * s .n + q)) (entry c x p q)
   unfolding entry

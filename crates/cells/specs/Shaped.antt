@@ -4,17 +4,8 @@ use mathlib.Core.List.{List}
 use Prim.Native.Nat.{ℕ, _≤_, _<_}
 use lib.ListN.{length, getD}
 use Rattle.paper.specs.declared.Shape.{Shape}
+use Rattle.algebra.specs.Sizes.{Sizes}
 use Rattle.paper.specs.Chart.{headSize, kOf, eOf, nOf, mOf, letters, joinFrom, prodFrom, startFrom, endFrom, matrixFrom, chartSize}
-
--- sizes in document 01's ranges
-pub record Sizes (k e n m : ℕ) : Type 0 where
-  pub k-low : 2 ≤ k
-  pub k-high : k ≤ 16
-  pub e-low : e < k
-  pub n-low : 1 ≤ n
-  pub n-high : n ≤ 24
-  pub m-low : 1 ≤ m
-  pub m-high : m ≤ 16
 
 -- s is the shape of the chart c: its fields are the chart's, its sizes are in range, the chart's bytes are all there, and those behind
 -- the head are grades

@@ -2,7 +2,7 @@
 ghost use mathlib.Core.Path.{_≡_};
 ghost use Prim.Native.Nat.{_+_, _*_, _<_};
 ghost use lib.ListN.{length, getD};
-ghost use Rattle.paper.specs.Chart.{join, prod, startFrom, endFrom, gradeFrom, entry};
+ghost use Rattle.paper.specs.Chart.{join, prod, entry};
 ghost use Rattle.cells.specs.Shaped.{Shaped, Read};
 use paper::Shape;
 
@@ -29,24 +29,6 @@ pub fn prod(chart: &[u8], shape: Shape, a: u8, b: u8) -> u8
     ensures { λ r. ⌜ Read (prod (now (chart .entry)) a b) (shape .k) r ⌝ }
 {
     cell(chart, shape.prod, a as usize, shape.k, b as usize)
-}
-
-// The start vector's entry at p.
-pub fn start(chart: &[u8], shape: Shape, p: usize) -> u8
-    requires { ⌜ Shaped (now chart) shape × (p < shape .n) ⌝ }
-    ensures { λ r. ⌜ Read (gradeFrom (now (chart .entry)) (startFrom (now (chart .entry))) p) (shape .k) r ⌝ }
-{
-    let at = shape.start + p;
-    chart[at]
-}
-
-// The end vector's entry at p.
-pub fn end(chart: &[u8], shape: Shape, p: usize) -> u8
-    requires { ⌜ Shaped (now chart) shape × (p < shape .n) ⌝ }
-    ensures { λ r. ⌜ Read (gradeFrom (now (chart .entry)) (endFrom (now (chart .entry))) p) (shape .k) r ⌝ }
-{
-    let at = shape.end + p;
-    chart[at]
 }
 
 // The entry at p, q of letter x's matrix.

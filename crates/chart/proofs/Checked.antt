@@ -18,7 +18,8 @@ use Rattle.paper.proofs.Said.{said-refuses}
 use Rattle.lists.proofs.Tests.{all-at, unless-passed}
 use Rattle.laws.specs.declared.Broken.{Broken}
 use Rattle.laws.specs.Laws.{FirstBroken}
-use Rattle.cells.specs.Shaped.{Sizes, Shaped}
+use Rattle.algebra.specs.Sizes.{Sizes}
+use Rattle.cells.specs.Shaped.{Shaped}
 use Rattle.chart.proofs.Ranges.{sizes-are}
 
 -- ---- what the tests that a chart passed tell, each record with the one before

@@ -11,7 +11,7 @@ use Rattle.paper.specs.Lists.{allBelow}
 use Rattle.paper.specs.Chart.{headSize, kOf, chartSize}
 use Rattle.paper.specs.Check.{sizesFit, gradeFits, gradesFit}
 use Rattle.lists.proofs.Tests.{both-split, both-true, all-fails, all-more}
-use Rattle.cells.specs.Shaped.{Sizes}
+use Rattle.algebra.specs.Sizes.{Sizes}
 
 pub sizes-are : (k e n m : ℕ) → sizesFit k e n m ≡ true → Sizes k e n m
 unfolding sizesFit

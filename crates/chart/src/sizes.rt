@@ -6,7 +6,7 @@ ghost use lib.ListN.{length};
 ghost use Rattle.paper.specs.Chart.{kOf, chartSize};
 ghost use Rattle.paper.specs.Check.{sizesFit, gradesFit, shapeOf};
 ghost use Rattle.paper.specs.Replies.{shapeSaid};
-ghost use Rattle.cells.specs.Shaped.{Sizes};
+ghost use Rattle.algebra.specs.Sizes.{Sizes};
 use paper::Shape;
 
 // Bytes before the tables: k, e, n, m.

@@ -13,7 +13,7 @@ use Rattle.paper.specs.Chart.{headSize, kOf, eOf, nOf, mOf, chartSize}
 use Rattle.paper.specs.Check.{headFits}
 use Rattle.pages.specs.Frames.{frame, lineLength, payload, frameFits}
 use Rattle.pages.specs.Texts.{chart, linesOf, widthOf, duesFrom, dues, linesFrom, linesAfter, textMost, linesOfText}
-use Rattle.cells.specs.Shaped.{Sizes}
+use Rattle.algebra.specs.Sizes.{Sizes}
 use Rattle.chart.proofs.Ranges.{sizes-are}
 use Rattle.lists.proofs.Bound.{le-or-lt, product}
 use Rattle.texts.specs.ChartText.{framesOf, textOf}
