@@ -18,9 +18,8 @@ use Rattle.numbering.proofs.Kept.{expanded-suc, expanded-more}
 use Rattle.places.specs.Search.{placeAt}
 use Rattle.places.proofs.Search.{length-values}
 use Rattle.kinds.specs.Kinds.{made}
-use Rattle.search.specs.Kept.{Holds}
 use Rattle.places.specs.Memory.{spliced, Apart}
-use Rattle.search.specs.Kept.{keptIn}
+use Rattle.search.specs.Kept.{keptIn, Index, Holds}
 use Rattle.expand.specs.Taken.{Settles, grown, foundBytes, nextsFor, rowFor, rowIn, Taken, TakenAs, Asks, ExpandAsks}
 use Rattle.kinds.specs.declared.Plan.{Plan}
 use Rattle.expand.specs.declared.Grown.{Grown}
@@ -44,26 +43,26 @@ length-rowFor b m vs v = omega (arith, length-pairs b vs v m)
 -- ---- the letters
 
 -- the letters below x taken, with `held` states kept in `new`, from `first` in `old`
-pub record NextsTo (p : Plan) (c t : List ℕ) (first : ℕ) (v row₀ row old new marks : List ℕ) (held x : ℕ) : Type 0 where
+pub record NextsTo (p : Plan) (c t : List ℕ) (first : ℕ) (v row₀ row old new : List ℕ) (index : Index) (held x : ℕ) : Type 0 where
   pub turn : x ≤ p .shape .letters
   pub roomy : held ≤ p .room
   pub row-long : length row ≡ length row₀
   pub listed : keptIn p held new ≡ expanded (made p c t .key) (made p c t .step) x v (keptIn p first old)
-  pub holds : Holds c p new marks held
+  pub holds : Holds c p new index held
   pub apart : Apart (p .stride) (p .width) (suc (p .room)) old new
   pub row-is : row ≡ inFront (joined x (foundBytes (made p c t) (keptIn p first old) v)) row₀
 
 module _ (p : Plan) (c t : List ℕ) (first : ℕ) (v row₀ old : List ℕ) where
-  pub nexts-none : (marks : List ℕ) → Asks p c t first v old marks → NextsTo p c t first v row₀ row₀ old old marks first 0
+  pub nexts-none : (index : Index) → Asks p c t first v old index → NextsTo p c t first v row₀ row₀ old old index first 0
   unfolding expanded joined
-  nexts-none marks a =
+  nexts-none index a =
       record { turn = omega arith; roomy = a .roomy; row-long = refl; listed = refl; holds = a .holds; apart = apart-refl _ _ _ _; row-is = inFront-none row₀ }
 
-  module _ {row new marks : List ℕ} {held x : ℕ} (so : NextsTo p c t first v row₀ row old new marks held x) where
-    pub nexts-asks : {marks₀ : List ℕ} → Asks p c t first v old marks₀ → Asks p c t held v new marks
+  module _ {row new : List ℕ} {index : Index} {held x : ℕ} (so : NextsTo p c t first v row₀ row old new index held x) where
+    pub nexts-asks : {index₀ : Index} → Asks p c t first v old index₀ → Asks p c t held v new index
     nexts-asks a = record { ready = a .ready; roomy = so .roomy; value = a .value; holds = so .holds }
 
-    module _ {new′ marks′ : List ℕ} {at more : ℕ} (h : x < p .shape .letters) (s : Settles p c t x v new new′ marks′ held at more) where
+    module _ {new′ : List ℕ} {index′ : Index} {at more : ℕ} (h : x < p .shape .letters) (s : Settles p c t x v new new′ index′ held at more) where
       -- the list with letter x's value kept
       listed-more : keptIn p more new′ ≡ expanded (made p c t .key) (made p c t .step) (suc x) v (keptIn p first old)
       listed-more = s .kept-is ∙ rw (so .listed) (sym (expanded-suc (made p c t .key) (made p c t .step) v (keptIn p first old) x))
@@ -83,7 +82,7 @@ module _ (p : Plan) (c t : List ℕ) (first : ℕ) (v row₀ old : List ℕ) whe
           )
 
       pub nexts-more : more ≤ p .room → {row′ : List ℕ} → length row′ ≡ length row → row′ ≡ spliced (2 * x) (twoBytes at) row →
-          NextsTo p c t first v row₀ row′ old new′ marks′ more (x + 1)
+          NextsTo p c t first v row₀ row′ old new′ index′ more (x + 1)
       unfolding joined
       nexts-more r lr w =
           record {
@@ -96,7 +95,7 @@ module _ (p : Plan) (c t : List ℕ) (first : ℕ) (v row₀ old : List ℕ) whe
             row-is = rw add-one (w ∙ inFront-splice _ row₀ (twoBytes at) row (2 * x) (so .row-is) (length-pairs _ _ v x) ∙ rw pair-is);
           }
 
-    pub nexts-all : x ≡ p .shape .letters → Taken p c t first v (inFront (nextsFor (made p c t) (p .shape .letters) (keptIn p first old) v) row₀) row old new marks held
+    pub nexts-all : x ≡ p .shape .letters → Taken p c t first v (inFront (nextsFor (made p c t) (p .shape .letters) (keptIn p first old) v) row₀) row old new index held
     unfolding nextsFor
     nexts-all e = record { roomy = so .roomy; listed = so .listed ∙ ap (λ y. expanded (made p c t .key) (made p c t .step) y v (keptIn p first old)) e; holds = so .holds; apart = so .apart; row-is = so .row-is ∙ ap (λ y. inFront (joined y (foundBytes (made p c t) (keptIn p first old) v)) row₀) e }
 
@@ -109,18 +108,18 @@ front-cons g new [] h = absurd (omega arith)
 front-cons g new (y ∷ ys) h = rw one-add
 
 -- one answer for another row
-again : (p : Plan) (c t : List ℕ) (held : ℕ) (v due due′ row row′ old new marks : List ℕ) (r : Grown) → (row ≡ due → row′ ≡ due′) →
-    TakenAs p c t held v due row old new marks r → TakenAs p c t held v due′ row′ old new marks r
-again p c t held v due due′ row row′ old new marks Full f d = d
-again p c t held v due due′ row row′ old new marks (Held h) f d = record { roomy = d .roomy; listed = d .listed; holds = d .holds; apart = d .apart; row-is = f (d .row-is) }
+again : (p : Plan) (c t : List ℕ) (held : ℕ) (v due due′ row row′ old new : List ℕ) (index : Index) (r : Grown) → (row ≡ due → row′ ≡ due′) →
+    TakenAs p c t held v due row old new index r → TakenAs p c t held v due′ row′ old new index r
+again p c t held v due due′ row row′ old new index Full f d = d
+again p c t held v due due′ row row′ old new index (Held h) f d = record { roomy = d .roomy; listed = d .listed; holds = d .holds; apart = d .apart; row-is = f (d .row-is) }
 
 -- the row, from its grade and its next states
-pub row-from : (p : Plan) (c t : List ℕ) (held : ℕ) (v row q old new marks : List ℕ) (g : ℕ) (r : Grown) → rowSize (p .shape .letters) ≤ length row → g ≡ made p c t .grade v →
-    TakenAs p c t held v (inFront (nextsFor (made p c t) (p .shape .letters) (keptIn p held old) v) (take (length (set row 0 g) - 1) (drop 1 (set row 0 g)))) q old new marks r →
-    TakenAs p c t held v (inFront (rowIn p c t held v old) row) (putMid 1 (length (set row 0 g) - 1) (set row 0 g) q) old new marks r
+pub row-from : (p : Plan) (c t : List ℕ) (held : ℕ) (v row q old new : List ℕ) (index : Index) (g : ℕ) (r : Grown) → rowSize (p .shape .letters) ≤ length row → g ≡ made p c t .grade v →
+    TakenAs p c t held v (inFront (nextsFor (made p c t) (p .shape .letters) (keptIn p held old) v) (take (length (set row 0 g) - 1) (drop 1 (set row 0 g)))) q old new index r →
+    TakenAs p c t held v (inFront (rowIn p c t held v old) row) (putMid 1 (length (set row 0 g) - 1) (set row 0 g) q) old new index r
 unfolding rowFor nextsFor
-row-from p c t held v row q old new marks g r h e d =
-    again p c t held v _ _ q _ old new marks r
+row-from p c t held v row q old new index g r h e d =
+    again p c t held v _ _ q _ old new index r
     (λ w.
     lent-from 1 _ (set row 0 g) q (rw (length-pairs, length-set) h) w
     ∙ front-cons g _ row (omega arith)
@@ -128,23 +127,23 @@ row-from p c t held v row q old new marks g r h e d =
     d
 
 -- the row in its place in the table
-pub expand-from : (p : Plan) (c t : List ℕ) (i held : ℕ) (table q old new marks v : List ℕ) (r : Grown) → i * rowSize (p .shape .letters) + rowSize (p .shape .letters) ≤ length table →
+pub expand-from : (p : Plan) (c t : List ℕ) (i held : ℕ) (table q old new : List ℕ) (index : Index) (v : List ℕ) (r : Grown) → i * rowSize (p .shape .letters) + rowSize (p .shape .letters) ≤ length table →
     v ≡ placeAt (p .stride) (p .width) old i →
-    TakenAs p c t held v (inFront (rowIn p c t held v old) (take (length table - i * rowSize (p .shape .letters)) (drop (i * rowSize (p .shape .letters)) table))) q old new marks r →
+    TakenAs p c t held v (inFront (rowIn p c t held v old) (take (length table - i * rowSize (p .shape .letters)) (drop (i * rowSize (p .shape .letters)) table))) q old new index r →
     TakenAs p c t held (placeAt (p .stride) (p .width) old i)
     (spliced (i * rowSize (p .shape .letters)) (rowIn p c t held (placeAt (p .stride) (p .width) old i) old) table)
-    (putMid (i * rowSize (p .shape .letters)) (length table - i * rowSize (p .shape .letters)) table q) old new marks r
-expand-from p c t i held table q old new marks v r h ev d =
+    (putMid (i * rowSize (p .shape .letters)) (length table - i * rowSize (p .shape .letters)) table q) old new index r
+expand-from p c t i held table q old new index v r h ev d =
     rw (← ev)
-    (again p c t held v _ _ q _ old new marks r (λ w. lent-from (i * rowSize (p .shape .letters)) (rowIn p c t held v old) table q (rw length-rowFor h) w) d)
+    (again p c t held v _ _ q _ old new index r (λ w. lent-from (i * rowSize (p .shape .letters)) (rowIn p c t held v old) table q (rw length-rowFor h) w) d)
 
 -- row i of the table is within it
-pub row-within : {p : Plan} {c t : List ℕ} {i held : ℕ} {table vectors marks : List ℕ} → ExpandAsks p c t i held table vectors marks →
+pub row-within : {p : Plan} {c t : List ℕ} {i held : ℕ} {table vectors : List ℕ} {index : Index} → ExpandAsks p c t i held table vectors index →
     i * rowSize (p .shape .letters) + rowSize (p .shape .letters) ≤ length table
 row-within {p} {c} {t} {i} {held} {table} a = row-inside i (p .room) (rowSize (p .shape .letters)) (length table) (omega (arith, a .below, a .roomy)) (a .table-fits)
 
 -- what is known of state i and the copy of its value
-module _ {p : Plan} {c t : List ℕ} {i held : ℕ} {table vectors marks : List ℕ} (a : ExpandAsks p c t i held table vectors marks) where
+module _ {p : Plan} {c t : List ℕ} {i held : ℕ} {table vectors : List ℕ} {index : Index} (a : ExpandAsks p c t i held table vectors index) where
   -- its row's offset is small
   pub row-small : i * rowSize (p .shape .letters) ≤ 135168
   row-small =
@@ -153,15 +152,15 @@ module _ {p : Plan} {c t : List ℕ} {i held : ℕ} {table vectors marks : List 
       mul-le-mul i-low m-low
 
   pub copy-inside : i * p .stride + p .width ≤ length vectors
-  copy-inside = omega (arith, place-inside (a .holds) i (omega (arith, a .below, a .roomy)), a .ready .sized .inside)
+  copy-inside = omega (arith, place-inside (a .holds .valued) i (omega (arith, a .below, a .roomy)), a .ready .sized .inside)
 
   module _ (copy : List ℕ) (e : take (p .width) copy ≡ take (p .width) (drop (i * p .stride) vectors)) where
     pub copy-is : take (p .width) copy ≡ placeAt (p .stride) (p .width) vectors i
     unfolding placeAt
     copy-is = e
 
-    pub copy-asks : Asks p c t held (take (p .width) copy) vectors marks
-    copy-asks = record { ready = a .ready; roomy = a .roomy; value = rw copy-is (a .holds .values i (a .below)); holds = a .holds }
+    pub copy-asks : Asks p c t held (take (p .width) copy) vectors index
+    copy-asks = record { ready = a .ready; roomy = a .roomy; value = rw copy-is (a .holds .valued .values i (a .below)); holds = a .holds }
 
     pub copy-long : length (take (p .width) copy) ≡ p .width
     copy-long = copy-asks .value .long

@@ -1,26 +1,21 @@
 -- A candidate settled, said of the list of kept values. Assumes nothing.
-use mathlib.Core.Path.{_≡_, sym, ap₂, _∙_}
+use mathlib.Core.Path.{_≡_, sym, ap₂, subst, _∙_}
 use mathlib.Core.List.{List, [], _∷_, _++_}
 use Prim.Native.Nat.{ℕ, suc, _+_, _-_, _*_, _≤_, _<_}
 use native.Mathlib.Omega.{arith}
-use native.Mathlib.Numerals.{add-one}
-use lib.ListN.{length, getD, take, drop, length-set}
-use lib.Seq.{getD-set-same, getD-set-other}
+use lib.ListN.{length, take, drop}
 use borrow.Rule.Slice.PartMut.{putMid}
 use Rattle.paper.specs.Lists.{inFront}
 use Rattle.paper.specs.Numbering.{place}
-use Rattle.lists.proofs.Tests.{below-suc}
 use Rattle.numbering.proofs.Place.{place-le}
 use Rattle.numbering.proofs.Kept.{kept-new, kept-old}
-use Rattle.places.specs.Search.{placeAt, values, placeFor}
+use Rattle.places.specs.Search.{placeAt, placeFor}
 use Rattle.places.specs.declared.Place.{Place}
 use Rattle.places.proofs.Search.{length-values, answer-none, answer-at}
-use Rattle.marks.specs.Marks.{markOf}
-use Rattle.kinds.specs.Kinds.{keyBy, made}
+use Rattle.kinds.specs.Kinds.{made}
 use Rattle.kinds.specs.Ready.{Value}
-use Rattle.search.specs.Kept.{Holds}
 use Rattle.places.specs.Memory.{spliced, Apart}
-use Rattle.search.specs.Kept.{keptIn, Sought}
+use Rattle.search.specs.Kept.{keptIn, Index, Holds, heldWith, Sought}
 use Rattle.expand.specs.Taken.{Settles, Asks}
 use Rattle.kinds.specs.declared.Plan.{Plan}
 use Rattle.places.proofs.Memory.{lent-from, values-more, place-here, place-before, values-before, apart-spliced}
@@ -28,7 +23,7 @@ use Rattle.kinds.proofs.KindLaws.{made-step}
 use Rattle.search.proofs.Found.{place-inside}
 
 -- letter x's candidate written in place `held`, lent from there on
-module _ (p : Plan) (c t : List ℕ) (x : ℕ) (v old marks q : List ℕ) (held : ℕ) (lx : x < p .shape .letters) (a : Asks p c t held v old marks)
+module _ (p : Plan) (c t : List ℕ) (x : ℕ) (v old : List ℕ) (index : Index) (q : List ℕ) (held : ℕ) (lx : x < p .shape .letters) (a : Asks p c t held v old index)
     (wrote : q ≡ inFront (made p c t .step x v) (take (length old - held * p .stride) (drop (held * p .stride) old))) where
   abbrev new : List ℕ
   new = putMid (held * p .stride) (length old - held * p .stride) old q
@@ -40,7 +35,7 @@ module _ (p : Plan) (c t : List ℕ) (x : ℕ) (v old marks q : List ℕ) (held 
   inside = a .ready .sized .inside
 
   within : held * p .stride + p .width ≤ length old
-  within = omega (arith, place-inside (a .holds) held (a .roomy), inside)
+  within = omega (arith, place-inside (a .holds .valued) held (a .roomy), inside)
 
   whole : new ≡ spliced (held * p .stride) (made p c t .step x v) old
   whole = lent-from (held * p .stride) (made p c t .step x v) old q (rw (value .long) within) wrote
@@ -58,37 +53,35 @@ module _ (p : Plan) (c t : List ℕ) (x : ℕ) (v old marks q : List ℕ) (held 
   apart = rw whole (apart-spliced (p .stride) (p .width) held (made p c t .step x v) old (value .long) inside within (suc (p .room)) (omega (arith, a .roomy)))
 
   -- the kept places still hold what they held
-  pub still-holds : Holds c p new marks held
+  pub still-holds : Holds c p new index held
   still-holds =
       record {
-        fits = rw (apart .long) (a .holds .fits);
-        roomy = a .holds .roomy;
-        values = λ s l. rw (before s l) (a .holds .values s l);
-        marked = λ s l. rw (before s l) (a .holds .marked s l);
+        valued =
+            record {
+              fits = rw (apart .long) (a .holds .valued .fits);
+              roomy = a .holds .valued .roomy;
+              values = λ s l. rw (before s l) (a .holds .valued .values s l);
+              marked = λ s l. rw (before s l) (a .holds .valued .marked s l);
+            };
+        linked = a .holds .linked;
+        chained = a .holds .chained;
       }
 
   -- and the candidate is a value
   pub new-value : Value (p .shape .k) (p .width) (placeAt (p .stride) (p .width) new held)
   new-value = rw here value
 
-  module _ (marks′ : List ℕ) (found : Place) (s : Sought p c new marks marks′ held (placeAt (p .stride) (p .width) new held) found) where
+  module _ (index′ : Index) (found : Place) (s : Sought p c new index′ held found) where
     seen : found ≡ placeFor held (place (made p c t .key) (keptIn p held old) (made p c t .step x v))
     seen = s .answer ∙ rw (here, listed)
 
     none-past : place (made p c t .key) (keptIn p held old) (made p c t .step x v) ≤ held
     none-past = rw (length-values (p .stride) (p .width) held old) at (place-le (made p c t .key) (keptIn p held old) (made p c t .step x v))
 
-    long : suc (p .room) ≤ length marks′
-    long = rw (s .noted, length-set) (a .holds .roomy)
+    holds-with : (f : Place) → found ≡ f → Holds c p new index′ (heldWith held f)
+    holds-with f e = subst (λ (g : Place). Holds c p new index′ (heldWith held g)) e (s .holds)
 
-    -- numbers before the candidate's are as they were
-    number-before : (i : ℕ) → i < held → getD marks′ i 0 ≡ markOf (keyBy (p .kind) c (placeAt (p .stride) (p .width) new i))
-    number-before i l = rw (s .noted) (getD-set-other marks held i _ 0 (λ e. omega arith) ∙ still-holds .marked i l)
-
-    number-here : getD marks′ held 0 ≡ markOf (keyBy (p .kind) c (placeAt (p .stride) (p .width) new held))
-    number-here = rw (s .noted) (getD-set-same marks held _ 0 (omega (arith, a .holds .roomy, a .roomy)))
-
-    pub settled-new : found ≡ Place.Nowhere → Settles p c t x v old new marks′ held held (held + 1)
+    pub settled-new : found ≡ Place.Nowhere → Settles p c t x v old new index′ held held (held + 1)
     settled-new e =
         let n : place (made p c t .key) (keptIn p held old) (made p c t .step x v) ≡ held = omega (arith, answer-none held _ (sym seen ∙ e), none-past) in
         record {
@@ -97,22 +90,16 @@ module _ (p : Plan) (c t : List ℕ) (x : ℕ) (v old marks q : List ℕ) (held 
               values-more (p .stride) (p .width) held new
               ∙ ap₂ (λ (vs : List (List ℕ)) (u : List ℕ). vs ++ (u ∷ [])) listed here
               ∙ sym (kept-new (made p c t .key) (keptIn p held old) (made p c t .step x v) (n ∙ sym (length-values (p .stride) (p .width) held old)));
-          holds =
-              record {
-                fits = still-holds .fits;
-                roomy = long;
-                values = rw add-one (below-suc {P = λ i. Value (p .shape .k) (p .width) (placeAt (p .stride) (p .width) new i)} held (still-holds .values) new-value);
-                marked = rw add-one (below-suc {P = λ i. getD marks′ i 0 ≡ markOf (keyBy (p .kind) c (placeAt (p .stride) (p .width) new i))} held number-before number-here);
-              };
+          holds = holds-with Place.Nowhere e;
           apart = apart;
         }
 
-    pub settled-old : (j : ℕ) → found ≡ Place.At j → Settles p c t x v old new marks′ held j held
+    pub settled-old : (j : ℕ) → found ≡ Place.At j → Settles p c t x v old new index′ held j held
     settled-old j e =
         let n = answer-at held _ j (sym seen ∙ e) in
         record {
           place-is = sym (n .1);
           kept-is = listed ∙ sym (kept-old (made p c t .key) (keptIn p held old) (made p c t .step x v) (rw (length-values (p .stride) (p .width) held old) (n .0)));
-          holds = record { fits = still-holds .fits; roomy = long; values = still-holds .values; marked = number-before };
+          holds = holds-with (Place.At j) e;
           apart = apart;
         }

@@ -13,13 +13,13 @@ use Rattle.kinds.specs.Ready.{Ready, Value}
 use Rattle.places.specs.Memory.{Apart}
 use Rattle.expand.specs.declared.Grown.{Grown}
 use Rattle.expand.specs.declared.Grown.the-variants.{Held, Full}
-use Rattle.search.specs.Kept.{keptIn, Holds}
+use Rattle.search.specs.Kept.{keptIn, Index, Holds}
 
 -- letter x's candidate from v settled: its place, and how many are kept with it
-pub record Settles (p : Plan) (c t : List ℕ) (x : ℕ) (v old new marks : List ℕ) (held at more : ℕ) : Type 0 where
+pub record Settles (p : Plan) (c t : List ℕ) (x : ℕ) (v old new : List ℕ) (index : Index) (held at more : ℕ) : Type 0 where
   pub place-is : at ≡ place (made p c t .key) (keptIn p held old) (made p c t .step x v)
   pub kept-is : keptIn p more new ≡ kept (made p c t .key) (keptIn p held old) (made p c t .step x v)
-  pub holds : Holds c p new marks more
+  pub holds : Holds c p new index more
   pub apart : Apart (p .stride) (p .width) (suc (p .room)) old new
 
 -- the states once v's letters are all taken, from `held` kept in `old`
@@ -41,28 +41,28 @@ abbrev pub rowIn : Plan → List ℕ → List ℕ → ℕ → List ℕ → List 
 rowIn p c t held v old = rowFor (made p c t) (p .shape .letters) (keptIn p held old) v
 
 -- v's letters all taken: h states are kept, and the row's bytes are what is due
-pub record Taken (p : Plan) (c t : List ℕ) (held : ℕ) (v due row old new marks : List ℕ) (h : ℕ) : Type 0 where
+pub record Taken (p : Plan) (c t : List ℕ) (held : ℕ) (v due row old new : List ℕ) (index : Index) (h : ℕ) : Type 0 where
   pub roomy : h ≤ p .room
   pub listed : keptIn p h new ≡ grown p c t held v old
-  pub holds : Holds c p new marks h
+  pub holds : Holds c p new index h
   pub apart : Apart (p .stride) (p .width) (suc (p .room)) old new
   pub row-is : row ≡ due
 
-abbrev pub TakenAs : Plan → List ℕ → List ℕ → ℕ → List ℕ → List ℕ → List ℕ → List ℕ → List ℕ → List ℕ → Grown → Type 0
-TakenAs p c t held v due row old new marks Full = p .room < length (grown p c t held v old)
-TakenAs p c t held v due row old new marks (Held h) = Taken p c t held v due row old new marks h
+abbrev pub TakenAs : Plan → List ℕ → List ℕ → ℕ → List ℕ → List ℕ → List ℕ → List ℕ → List ℕ → Index → Grown → Type 0
+TakenAs p c t held v due row old new index Full = p .room < length (grown p c t held v old)
+TakenAs p c t held v due row old new index (Held h) = Taken p c t held v due row old new index h
 
 -- what taking the letters of a value asks for
-pub record Asks (p : Plan) (c t : List ℕ) (held : ℕ) (v vectors marks : List ℕ) : Type 0 where
+pub record Asks (p : Plan) (c t : List ℕ) (held : ℕ) (v vectors : List ℕ) (index : Index) : Type 0 where
   pub ready : Ready c t p
   pub roomy : held ≤ p .room
   pub value : Value (p .shape .k) (p .width) v
-  pub holds : Holds c p vectors marks held
+  pub holds : Holds c p vectors index held
 
 -- and expanding state i
-pub record ExpandAsks (p : Plan) (c t : List ℕ) (i held : ℕ) (table vectors marks : List ℕ) : Type 0 where
+pub record ExpandAsks (p : Plan) (c t : List ℕ) (i held : ℕ) (table vectors : List ℕ) (index : Index) : Type 0 where
   pub ready : Ready c t p
   pub below : i < held
   pub roomy : held ≤ p .room
-  pub holds : Holds c p vectors marks held
+  pub holds : Holds c p vectors index held
   pub table-fits : p .room * rowSize (p .shape .letters) ≤ length table

@@ -58,15 +58,17 @@ pub fn settle(
     x: usize,
     v: &[u8],
     vectors: &mut [u8],
+    heads: &mut [u16],
+    links: &mut [u16],
     marks: &mut [u32],
     held: usize,
 ) -> Settled
-    requires { ⌜ (x < plan .shape .letters) × Asks plan (now chart) (now reverse) held (now v) (now vectors) (now marks) ⌝ }
-    ensures { λ r. ⌜ Settles plan (now (chart .entry)) (now (reverse .entry)) x (now (v .entry)) (now (vectors .entry)) (now (vectors .exit)) (now (marks .exit)) held (r .at) (r .held) ⌝ }
+    requires { ⌜ (x < plan .shape .letters) × Asks plan (now chart) (now reverse) held (now v) (now vectors) (now heads, now links, now marks) ⌝ }
+    ensures { λ r. ⌜ Settles plan (now (chart .entry)) (now (reverse .entry)) x (now (v .entry)) (now (vectors .entry)) (now (vectors .exit)) (now (heads .exit), now (links .exit), now (marks .exit)) held (r .at) (r .held) ⌝ }
 {
     let from = held * plan.stride;
     step_into(plan, chart, reverse, x, v, &mut vectors[from..]);
-    let Place::At(j) = seek(plan, chart, vectors, marks, held) else {
+    let Place::At(j) = seek(plan, chart, vectors, heads, links, marks, held) else {
         return Settled {
             at: held,
             held: held + 1,
@@ -84,15 +86,28 @@ pub fn nexts(
     first: usize,
     row: &mut [u8],
     vectors: &mut [u8],
+    heads: &mut [u16],
+    links: &mut [u16],
     marks: &mut [u32],
 ) -> Grown
-    requires { ⌜ Asks plan (now chart) (now reverse) first (now v) (now vectors) (now marks) × (2 * plan .shape .letters ≤ length (now row)) ⌝ }
-    ensures { λ r. ⌜ TakenAs plan (now (chart .entry)) (now (reverse .entry)) first (now (v .entry)) (inFront (nextsFor (made plan (now (chart .entry)) (now (reverse .entry))) (plan .shape .letters) (keptIn plan first (now (vectors .entry))) (now (v .entry))) (now (row .entry))) (now (row .exit)) (now (vectors .entry)) (now (vectors .exit)) (now (marks .exit)) r ⌝ }
+    requires { ⌜ Asks plan (now chart) (now reverse) first (now v) (now vectors) (now heads, now links, now marks) × (2 * plan .shape .letters ≤ length (now row)) ⌝ }
+    ensures { λ r. ⌜ TakenAs plan (now (chart .entry)) (now (reverse .entry)) first (now (v .entry)) (inFront (nextsFor (made plan (now (chart .entry)) (now (reverse .entry))) (plan .shape .letters) (keptIn plan first (now (vectors .entry))) (now (v .entry))) (now (row .entry))) (now (row .exit)) (now (vectors .entry)) (now (vectors .exit)) (now (heads .exit), now (links .exit), now (marks .exit)) r ⌝ }
 {
     let mut held = first;
     let mut x = 0;
     while x < plan.shape.letters {
-        let settled = settle(plan, chart, reverse, x, v, vectors, marks, held);
+        let settled = settle(
+            plan,
+            chart,
+            reverse,
+            x,
+            v,
+            vectors,
+            heads,
+            links,
+            marks,
+            held,
+        );
         held = settled.held;
         if plan.room < held {
             return Grown::Full;
@@ -112,13 +127,26 @@ pub fn write_row(
     held: usize,
     row: &mut [u8],
     vectors: &mut [u8],
+    heads: &mut [u16],
+    links: &mut [u16],
     marks: &mut [u32],
 ) -> Grown
-    requires { ⌜ Asks plan (now chart) (now reverse) held (now v) (now vectors) (now marks) × (rowSize (plan .shape .letters) ≤ length (now row)) ⌝ }
-    ensures { λ r. ⌜ TakenAs plan (now (chart .entry)) (now (reverse .entry)) held (now (v .entry)) (inFront (rowIn plan (now (chart .entry)) (now (reverse .entry)) held (now (v .entry)) (now (vectors .entry))) (now (row .entry))) (now (row .exit)) (now (vectors .entry)) (now (vectors .exit)) (now (marks .exit)) r ⌝ }
+    requires { ⌜ Asks plan (now chart) (now reverse) held (now v) (now vectors) (now heads, now links, now marks) × (rowSize (plan .shape .letters) ≤ length (now row)) ⌝ }
+    ensures { λ r. ⌜ TakenAs plan (now (chart .entry)) (now (reverse .entry)) held (now (v .entry)) (inFront (rowIn plan (now (chart .entry)) (now (reverse .entry)) held (now (v .entry)) (now (vectors .entry))) (now (row .entry))) (now (row .exit)) (now (vectors .entry)) (now (vectors .exit)) (now (heads .exit), now (links .exit), now (marks .exit)) r ⌝ }
 {
     row[0] = grade_by(plan, chart, v);
-    nexts(plan, chart, reverse, v, held, &mut row[1..], vectors, marks)
+    nexts(
+        plan,
+        chart,
+        reverse,
+        v,
+        held,
+        &mut row[1..],
+        vectors,
+        heads,
+        links,
+        marks,
+    )
 }
 
 // Writes state i's row into its place, and keeps what is new among its next states. Its value is copied once, since places are written.
@@ -130,10 +158,12 @@ pub fn expand(
     held: usize,
     table: &mut [u8],
     vectors: &mut [u8],
+    heads: &mut [u16],
+    links: &mut [u16],
     marks: &mut [u32],
 ) -> Grown
-    requires { ⌜ ExpandAsks plan (now chart) (now reverse) i held (now table) (now vectors) (now marks) ⌝ }
-    ensures { λ r. ⌜ TakenAs plan (now (chart .entry)) (now (reverse .entry)) held (placeAt (plan .stride) (plan .width) (now (vectors .entry)) i) (spliced (i * rowSize (plan .shape .letters)) (rowIn plan (now (chart .entry)) (now (reverse .entry)) held (placeAt (plan .stride) (plan .width) (now (vectors .entry)) i) (now (vectors .entry))) (now (table .entry))) (now (table .exit)) (now (vectors .entry)) (now (vectors .exit)) (now (marks .exit)) r ⌝ }
+    requires { ⌜ ExpandAsks plan (now chart) (now reverse) i held (now table) (now vectors) (now heads, now links, now marks) ⌝ }
+    ensures { λ r. ⌜ TakenAs plan (now (chart .entry)) (now (reverse .entry)) held (placeAt (plan .stride) (plan .width) (now (vectors .entry)) i) (spliced (i * rowSize (plan .shape .letters)) (rowIn plan (now (chart .entry)) (now (reverse .entry)) held (placeAt (plan .stride) (plan .width) (now (vectors .entry)) i) (now (vectors .entry))) (now (table .entry))) (now (table .exit)) (now (vectors .entry)) (now (vectors .exit)) (now (heads .exit), now (links .exit), now (marks .exit)) r ⌝ }
 {
     let w = plan.width;
     let copy = copy_of(vectors, i * plan.stride, w);
@@ -146,6 +176,8 @@ pub fn expand(
         held,
         &mut table[at..],
         vectors,
+        heads,
+        links,
         marks,
     )
 }

@@ -3,8 +3,7 @@ use mathlib.Core.Path.{_≡_, refl, _∙_}
 use mathlib.Core.Bool.{Bool, true, false}
 use mathlib.Core.List.{List, []}
 use Prim.Native.Nat.{ℕ, suc, _+_, _-_, _*_, _/_, _≤_, _<_}
-use native.Mathlib.Nat.{suc-mul, div-lt-iff-lt-mul, le-div-iff-mul-le}
-use native.Mathlib.Numerals.{add-one}
+use native.Mathlib.Nat.{div-lt-iff-lt-mul, le-div-iff-mul-le}
 use native.Mathlib.Omega.{arith}
 use lib.Dec.{leb, ltb}
 use lib.ListN.{length, getD, take, drop}
@@ -49,10 +48,6 @@ module _ (stride w held : ℕ) (xs : List ℕ) where
   pub values-at : (s : ℕ) → s < held → getD (values stride w held xs) s [] ≡ placeAt stride w xs s
   unfolding values
   values-at s h = getD-tabulate held (placeAt stride w xs) [] s h
-
--- one stride further is the next place
-pub offset-next : (s at stride : ℕ) → at ≡ s * stride → at + stride ≡ (s + 1) * stride
-offset-next s at stride e = rw (add-one, suc-mul, e)
 
 -- ---- the vector behind a state
 

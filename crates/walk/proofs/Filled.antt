@@ -6,24 +6,25 @@ use native.Mathlib.Nat.{zero-add, zero-mul, suc-mul, mul-comm, mul-sub, mul-le-m
 use native.Mathlib.Numerals.{add-one}
 use native.Mathlib.Omega.{arith}
 use native.Mathlib.Decide.{decLt}
-use lib.ListN.{length, getD, take, drop, replicate, length-take, length-drop, length-set}
-use lib.Seq.{drop-drop, ext-getD, getD-set-same}
+use lib.ListN.{length, getD, take, drop, replicate, length-take, length-drop}
+use lib.Seq.{drop-drop, ext-getD}
 use borrow.Rule.Slice.PartMut.{putMid, midOf}
+use borrow.Author.Tests.{le-ltb}
 use Rattle.paper.specs.Lists.{tabulate, joined, part, inFront, zeros}
+use Rattle.paper.specs.Numbering.{place}
 use Rattle.paper.specs.Constructions.{statesOf, tableOf}
 use Rattle.paper.specs.Builders.{placeOf, placed}
-use Rattle.lists.proofs.Tests.{below-suc}
 use Rattle.lists.proofs.ByPlace.{joined-cong, length-part, getD-part}
 use Rattle.lists.proofs.Lent.{length-inFront, getD-inFront, getD-behind}
 use Rattle.numbering.proofs.Rest.{rest-start}
-use Rattle.places.specs.Search.{placeAt, values}
+use Rattle.places.specs.Search.{placeAt, values, placeFor}
 use Rattle.places.proofs.Search.{length-values, values-at}
-use Rattle.marks.specs.Marks.{markOf}
-use Rattle.kinds.specs.Kinds.{keyBy, made}
+use Rattle.marks.specs.Chains.{buckets}
+use Rattle.marks.proofs.ChainLaws.{chained-none}
+use Rattle.kinds.specs.Kinds.{made}
 use Rattle.kinds.specs.Ready.{Value}
-use Rattle.search.specs.Kept.{Holds}
 use Rattle.places.specs.Memory.{spliced, Apart}
-use Rattle.search.specs.Kept.{keptIn, Sought}
+use Rattle.search.specs.Kept.{keptIn, Index, Holds, heldWith, Sought}
 use Rattle.walk.specs.Walked.{walked, WalkAsks, Walked, WalkedAs, GrowAsks, statesBy, Made}
 use Rattle.places.specs.declared.Place.{Place}
 use Rattle.kinds.specs.declared.Plan.{Plan}
@@ -93,6 +94,10 @@ module _ (stride w h room : ℕ) (vs : List (List ℕ)) (old buf : List ℕ) (in
 
 -- ---- the first value in place 0
 
+-- where no place is held, a search finds none
+nowhere : (i : ℕ) → placeFor 0 i ≡ Place.Nowhere
+nowhere i = simp (le-ltb i 0 (omega arith))
+
 front-spliced : (stride : ℕ) (new old : List ℕ) → inFront new old ≡ spliced (0 * stride) new old
 unfolding inFront spliced
 front-spliced stride new old = rw (zero-mul, zero-add)
@@ -119,23 +124,27 @@ module _ (p : Plan) (c t table old first : List ℕ) (a : GrowAsks p c t table o
   pub first-value : Value (p .shape .k) (p .width) (placeAt (p .stride) (p .width) first 0)
   first-value = rw here value
 
-  pub none-held : (marks : List ℕ) → suc (p .room) ≤ length marks → Holds c p first marks 0
-  none-held marks l = record { fits = rw (begun .long) (a .fits); roomy = l; values = λ s b. absurd (omega arith); marked = λ s b. absurd (omega arith) }
-
-  pub one-held : (marks marks′ : List ℕ) (found : Place) → suc (p .room) ≤ length marks → Sought p c first marks marks′ 0 (placeAt (p .stride) (p .width) first 0) found →
-      WalkAsks p c t table first marks′
-  one-held marks marks′ found l s =
+  -- no place is held, and the index is empty
+  pub none-held : (heads links marks : List ℕ) → heads ≡ replicate buckets 0 → 4097 ≡ length links → 4097 ≡ length marks → Holds c p first (heads, links, marks) 0
+  none-held heads links marks e l m =
       record {
-        ready = a .ready;
-        holds =
+        valued =
             record {
               fits = rw (begun .long) (a .fits);
-              roomy = rw (s .noted, length-set) l;
-              values = below-suc {P = λ i. Value (p .shape .k) (p .width) (placeAt (p .stride) (p .width) first i)} 0 (λ i b. absurd (omega arith)) first-value;
-              marked =
-                  below-suc {P = λ i. getD marks′ i 0 ≡ markOf (keyBy (p .kind) c (placeAt (p .stride) (p .width) first i))} 0 (λ i b. absurd (omega arith))
-                  (rw (s .noted) (getD-set-same marks 0 _ 0 (omega arith)));
+              roomy = omega (arith, a .ready .sized .room-high);
+              values = λ s b. absurd (omega arith);
+              marked = λ s b. absurd (omega arith);
             };
+        linked = omega (arith, a .ready .sized .room-high);
+        chained = chained-none heads links marks e;
+      }
+
+  pub one-held : (index : Index) (found : Place) → Sought p c first index 0 found → WalkAsks p c t table first index
+  one-held index found s =
+      let n : found ≡ Place.Nowhere = s .answer ∙ nowhere (place (made p c t .key) (keptIn p 0 first) (placeAt (p .stride) (p .width) first 0)) in
+      record {
+        ready = a .ready;
+        holds = subst (λ (f : Place). Holds c p first index (heldWith 0 f)) n (s .holds);
         table-fits = a .table-fits;
       }
 

@@ -17,9 +17,8 @@ use Rattle.numbering.proofs.TableBytes.{length-row}
 use Rattle.places.specs.Search.{placeAt}
 use Rattle.places.proofs.Search.{length-values, values-at}
 use Rattle.kinds.specs.Kinds.{made}
-use Rattle.search.specs.Kept.{Holds}
 use Rattle.places.specs.Memory.{Apart}
-use Rattle.search.specs.Kept.{keptIn}
+use Rattle.search.specs.Kept.{keptIn, Index, Holds}
 use Rattle.expand.specs.Taken.{grown, foundBytes, nextsFor, rowFor, rowIn, Taken, TakenAs, ExpandAsks}
 use Rattle.walk.specs.Walked.{walked, WalkAsks, Walked}
 use Rattle.places.specs.Memory.{spliced}
@@ -29,12 +28,12 @@ use Rattle.expand.specs.declared.Grown.the-variants.{Held, Full}
 use Rattle.places.proofs.Memory.{inFront-splice, apart-refl, apart-trans}
 
 -- the states below i expanded, with `held` states kept in `new`
-pub record WalkTo (p : Plan) (c t table₀ table old new marks : List ℕ) (held i : ℕ) : Type 0 where
+pub record WalkTo (p : Plan) (c t table₀ table old new : List ℕ) (index : Index) (held i : ℕ) : Type 0 where
   pub below : i ≤ held
   pub roomy : held ≤ p .room
   pub table-long : length table ≡ length table₀
   pub listed : rest (made p c t .key) (made p c t .step) (p .shape .letters) (p .room) i (keptIn p held new) ≡ walked p c t old
-  pub holds : Holds c p new marks held
+  pub holds : Holds c p new index held
   pub apart : Apart (p .stride) (p .width) (suc (p .room)) old new
   pub table-is : table ≡ inFront (joined i (stateRow (made p c t) (p .shape .letters) (walked p c t old))) table₀
 
@@ -43,9 +42,9 @@ module _ (p : Plan) (c t table₀ old : List ℕ) where
   abbrev all : List (List ℕ)
   all = walked p c t old
 
-  pub walk-none : (marks : List ℕ) → WalkAsks p c t table₀ old marks → WalkTo p c t table₀ table₀ old old marks 1 0
+  pub walk-none : (index : Index) → WalkAsks p c t table₀ old index → WalkTo p c t table₀ table₀ old old index 1 0
   unfolding joined
-  walk-none marks a =
+  walk-none index a =
       record {
         below = omega arith;
         roomy = a .ready .sized .room-low;
@@ -60,8 +59,8 @@ module _ (p : Plan) (c t table₀ old : List ℕ) where
   unfolding stateRow
   length-done i = length-joined i (rowSize (p .shape .letters)) _ (λ s h. length-row (made p c t) (p .shape .letters) all (getD all s []))
 
-  module _ {table new marks : List ℕ} {held i : ℕ} (so : WalkTo p c t table₀ table old new marks held i) where
-    pub walk-asks : {marks₀ : List ℕ} → WalkAsks p c t table₀ old marks₀ → i < held → ExpandAsks p c t i held table new marks
+  module _ {table new : List ℕ} {index : Index} {held i : ℕ} (so : WalkTo p c t table₀ table old new index held i) where
+    pub walk-asks : {index₀ : Index} → WalkAsks p c t table₀ old index₀ → i < held → ExpandAsks p c t i held table new index
     walk-asks a h = record { ready = a .ready; below = h; roomy = so .roomy; holds = so .holds; table-fits = rw (so .table-long) (a .table-fits) }
 
     module _ (h : i < held) where
@@ -103,11 +102,11 @@ module _ (p : Plan) (c t table₀ old : List ℕ) where
           (rw (so .listed) at (rest-value (made p c t .key) (made p c t .step) (p .shape .letters) (p .room) i (keptIn p held new) inside few)) ∙ state-i in
           rw (q, joined-cong (p .shape .letters) (foundBytes (made p c t) (keptIn p held new) v) (nextBytes (made p c t) all v) next-stays)
 
-      walk-more : {table′ new′ marks′ : List ℕ} {more : ℕ} →
-          Taken p c t held v (spliced (i * rowSize (p .shape .letters)) (rowIn p c t held v new) table) table′ new new′ marks′ more → length table′ ≡ length table →
-          WalkTo p c t table₀ table′ old new′ marks′ more (i + 1)
+      walk-more : {table′ new′ : List ℕ} {index′ : Index} {more : ℕ} →
+          Taken p c t held v (spliced (i * rowSize (p .shape .letters)) (rowIn p c t held v new) table) table′ new new′ index′ more → length table′ ≡ length table →
+          WalkTo p c t table₀ table′ old new′ index′ more (i + 1)
       unfolding joined
-      walk-more {table′} {new′} {marks′} {more} d lt =
+      walk-more {table′} {new′} {index′} {more} d lt =
           record {
             below =
                 omega (
@@ -125,13 +124,13 @@ module _ (p : Plan) (c t table₀ old : List ℕ) where
             table-is = rw add-one (d .row-is ∙ inFront-splice _ table₀ _ table (i * rowSize (p .shape .letters)) (so .table-is) (length-done i) ∙ rw row-stays);
           }
 
-      module _ (table′ new′ marks′ : List ℕ) (r : Grown)
-          (d : TakenAs p c t held v (spliced (i * rowSize (p .shape .letters)) (rowIn p c t held v new) table) table′ new new′ marks′ r) where
+      module _ (table′ new′ : List ℕ) (index′ : Index) (r : Grown)
+          (d : TakenAs p c t held v (spliced (i * rowSize (p .shape .letters)) (rowIn p c t held v new) table) table′ new new′ index′ r) where
         pub walk-stops : r ≡ Full → p .room < length (walked p c t old)
-        walk-stops e = walk-full (subst (λ (g : Grown). TakenAs p c t held v (spliced (i * rowSize (p .shape .letters)) (rowIn p c t held v new) table) table′ new new′ marks′ g) e d)
+        walk-stops e = walk-full (subst (λ (g : Grown). TakenAs p c t held v (spliced (i * rowSize (p .shape .letters)) (rowIn p c t held v new) table) table′ new new′ index′ g) e d)
 
-        pub walk-goes : (more : ℕ) → r ≡ Held more → length table′ ≡ length table → WalkTo p c t table₀ table′ old new′ marks′ more (i + 1)
-        walk-goes more e lt = walk-more (subst (λ (g : Grown). TakenAs p c t held v (spliced (i * rowSize (p .shape .letters)) (rowIn p c t held v new) table) table′ new new′ marks′ g) e d) lt
+        pub walk-goes : (more : ℕ) → r ≡ Held more → length table′ ≡ length table → WalkTo p c t table₀ table′ old new′ index′ more (i + 1)
+        walk-goes more e lt = walk-more (subst (λ (g : Grown). TakenAs p c t held v (spliced (i * rowSize (p .shape .letters)) (rowIn p c t held v new) table) table′ new new′ index′ g) e d) lt
 
     pub walk-all : held ≤ i → Walked p c t table₀ table old new held
     unfolding tableOf

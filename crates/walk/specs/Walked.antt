@@ -11,7 +11,7 @@ use Rattle.paper.specs.Constructions.{statesOf, tableOf}
 use Rattle.paper.specs.Builders.{placed}
 use Rattle.kinds.specs.Kinds.{made}
 use Rattle.kinds.specs.Ready.{Ready}
-use Rattle.search.specs.Kept.{keptIn, Holds}
+use Rattle.search.specs.Kept.{keptIn, Index, Holds}
 use Rattle.places.specs.Memory.{Apart}
 use Rattle.expand.specs.declared.Grown.{Grown}
 use Rattle.expand.specs.declared.Grown.the-variants.{Held, Full}
@@ -20,9 +20,9 @@ use Rattle.expand.specs.declared.Grown.the-variants.{Held, Full}
 abbrev pub walked : Plan → List ℕ → List ℕ → List ℕ → List (List ℕ)
 walked p c t old = explored (made p c t .key) (made p c t .step) (p .shape .letters) (p .room) (suc (p .room)) 0 (keptIn p 1 old)
 
-pub record WalkAsks (p : Plan) (c t table vectors marks : List ℕ) : Type 0 where
+pub record WalkAsks (p : Plan) (c t table vectors : List ℕ) (index : Index) : Type 0 where
   pub ready : Ready c t p
-  pub holds : Holds c p vectors marks 1
+  pub holds : Holds c p vectors index 1
   pub table-fits : p .room * rowSize (p .shape .letters) ≤ length table
 
 -- all states expanded

@@ -4,6 +4,9 @@ use expand::expand;
 use kinds::Plan;
 use kinds::put_first;
 use lists::zero;
+use marks::chains::no_heads;
+use marks::chains::no_links;
+use marks::chains::no_marks;
 use search::seek;
 ghost use Rattle.walk.specs.Walked.{WalkAsks, WalkedAs, GrowAsks, MadeAs};
 
@@ -14,15 +17,28 @@ pub fn walk(
     reverse: &[u8],
     table: &mut [u8],
     vectors: &mut [u8],
+    heads: &mut [u16],
+    links: &mut [u16],
     marks: &mut [u32],
 ) -> Grown
-    requires { ⌜ WalkAsks plan (now chart) (now reverse) (now table) (now vectors) (now marks) ⌝ }
+    requires { ⌜ WalkAsks plan (now chart) (now reverse) (now table) (now vectors) (now heads, now links, now marks) ⌝ }
     ensures { λ r. ⌜ WalkedAs plan (now (chart .entry)) (now (reverse .entry)) (now (table .entry)) (now (table .exit)) (now (vectors .entry)) (now (vectors .exit)) r ⌝ }
 {
     let mut held = 1;
     let mut i = 0;
     while i < held {
-        let Grown::Held(more) = expand(plan, chart, reverse, i, held, table, vectors, marks) else {
+        let Grown::Held(more) = expand(
+            plan,
+            chart,
+            reverse,
+            i,
+            held,
+            table,
+            vectors,
+            heads,
+            links,
+            marks,
+        ) else {
             return Grown::Full;
         };
         held = more;
@@ -36,10 +52,21 @@ pub fn grow(plan: Plan, chart: &[u8], reverse: &[u8], table: &mut [u8], vectors:
     requires { ⌜ GrowAsks plan (now chart) (now reverse) (now table) (now vectors) ⌝ }
     ensures { λ r. ⌜ MadeAs plan (now (chart .entry)) (now (reverse .entry)) (now (table .entry)) (now (table .exit)) (now (vectors .entry)) (now (vectors .exit)) r ⌝ }
 {
-    let mut marks = [0u32; 4097];
+    let mut heads = no_heads();
+    let mut links = no_links();
+    let mut marks = no_marks();
     put_first(plan, chart, reverse, vectors);
-    seek(plan, chart, vectors, &mut marks, 0);
-    let Grown::Held(held) = walk(plan, chart, reverse, table, vectors, &mut marks) else {
+    seek(plan, chart, vectors, &mut heads, &mut links, &mut marks, 0);
+    let Grown::Held(held) = walk(
+        plan,
+        chart,
+        reverse,
+        table,
+        vectors,
+        &mut heads,
+        &mut links,
+        &mut marks,
+    ) else {
         return Grown::Full;
     };
     let from = held * plan.stride;

@@ -1,6 +1,7 @@
 use native.Mathlib.Omega.{arith}
 use denote.Ref.{now}
-use Rattle.search.proofs.Found.{unmarked, value-taken, told, place-inside}
+use Rattle.marks.proofs.MarkLaws.{unmarked}
+use Rattle.search.proofs.Found.{value-taken, told, place-inside}
 use borrow.Author.Needs.{needs}
 use Rattle.search.proofs.has_key.Statement.{statement}
 use Rattle.search.proofs.has_key.Tie as tie
@@ -15,7 +16,7 @@ shared-slice-read-if1 : tie.Need-shared-slice-read-if1
 shared-slice-read-if1 c = omega (arith, c .before .before .before .before .before .pre .1 .roomy, c .before .before .before .before .before .pre .2)
 
 returns : tie.Need-returns
-returns c = unmarked (c .before .before .before .before .before .before .pre .1) _ (c .before .before .before .before .before .before .args .s) (omega arith) (c .before .before .before .before .before .before .pre .4) (c .if1 .taken)
+returns c = let b = c .before .before .before .before .before .before in unmarked _ _ (b .pre .1 .marked (b .args .s) (omega arith)) (b .pre .4) (c .if1 .taken)
 
 add-to : tie.Need-add-to
 add-to c = let b = c .before .before .before .before .before .before .before in omega (arith, place-inside (b .pre .1) (b .args .s) (b .pre .2), b .pre .3, b .pre .0 .inside)

@@ -1,3 +1,4 @@
+-- `walk::walk` meets its contract. The loop's invariant: `WalkTo`, and lent arrays keep their lengths. Assumes nothing.
 use mathlib.Core.Path.{_≡_, refl, _∙_}
 use lib.ListN.{length}
 use Prim.Native.Nat.{_-_}
@@ -11,16 +12,18 @@ use Rattle.walk.proofs.walk.Lts as lts
 use Rattle.expand.proofs.expand.Reads as expand-reads
 
 abbrev Inv-loop : tie.InvT-loop
-Inv-loop plan chart reverse table₀ vectors₀ marks₀ held₀ i₀ table vectors marks held i = WalkTo plan chart reverse table₀ table vectors₀ vectors marks held i × (length marks ≡ length marks₀)
+Inv-loop plan chart reverse table₀ vectors₀ heads₀ links₀ marks₀ held₀ i₀ table vectors heads links marks held i =
+    WalkTo plan chart reverse table₀ table vectors₀ vectors (heads, links, marks) held i × (length heads ≡ length heads₀) × (length links ≡ length links₀) × (length marks ≡ length marks₀)
 
 abbrev μ-loop : tie.MeasureT-loop
-μ-loop plan chart reverse table₀ vectors₀ marks₀ held₀ i₀ table vectors marks held i = plan .room - i
+μ-loop plan chart reverse table₀ vectors₀ heads₀ links₀ marks₀ held₀ i₀ table vectors heads links marks held i =
+    plan .room - i
 
 loop-holds : tie.Need-loop-holds Inv-loop μ-loop
-loop-holds c = (walk-none _ _ _ _ _ _ (c .before .before .before .before .before .pre), refl)
+loop-holds c = (walk-none _ _ _ _ _ _ (c .before .before .before .before .before .before .before .pre), refl, refl, refl)
 
 expand-requires : tie.Need-expand-requires Inv-loop μ-loop
-expand-requires c κs = walk-asks _ _ _ _ _ (c .before .before .before .before .loop .inv .0) (c .before .before .before .before .before .before .before .before .before .before .pre) (search needs)
+expand-requires c κs = walk-asks _ _ _ _ _ (c .before .before .before .before .before .before .loop .inv .0) (c .before .before .before .before .before .before .before .before .before .before .before .before .before .before .pre) (search needs)
 
 enum-known-more : tie.Need-enum-known-more Inv-loop μ-loop
 enum-known-more c = search needs
@@ -37,8 +40,14 @@ same-length-2 c = search needs
 same-length-3 : tie.Need-same-length-3 Inv-loop μ-loop
 same-length-3 c = search needs
 
+same-length-4 : tie.Need-same-length-4 Inv-loop μ-loop
+same-length-4 c = search needs
+
+same-length-5 : tie.Need-same-length-5 Inv-loop μ-loop
+same-length-5 c = search needs
+
 returns : tie.Need-returns Inv-loop μ-loop
-returns c = walk-stops _ _ _ _ _ (c .before .before .before .before .before .before .before .before .before .before .before .before .before .loop .inv .0) (search needs) _ _ _ (c .before .before .before .before .before .before .before .before .expand .result) (c .before .before .before .before .before .before .before .before .expand .ensures) (c .enum-told .given .1)
+returns c = walk-stops _ _ _ _ _ (c .before .before .before .before .before .before .before .before .before .before .before .before .before .before .before .before .before .before .before .loop .inv .0) (search needs) _ _ _ (c .before .before .before .before .before .before .before .before .before .before .before .before .expand .result) (c .before .before .before .before .before .before .before .before .before .before .before .before .expand .ensures) (c .enum-told .given .1)
 
 add-i : tie.Need-add-i Inv-loop μ-loop
 add-i c = search needs
@@ -47,16 +56,22 @@ loop-less : tie.Need-loop-less Inv-loop μ-loop
 loop-less c = search needs
 
 loop-again : tie.Need-loop-again Inv-loop μ-loop
-loop-again c = (walk-goes _ _ _ _ _ (c .before .before .before .before .before .before .before .before .before .before .before .before .before .before .loop .inv .0) (search needs) _ _ _ (c .before .before .before .before .before .before .before .before .before .expand .result) (c .before .before .before .before .before .before .before .before .before .expand .ensures) _ (c .before .more .given .1) (c .before .before .before .before .before .before .before .before .before .expand .kept .1 .1 .1 .1 .1 .0), c .before .before .before .before .before .before .before .before .before .expand .kept .1 .1 .1 .1 .1 .1 .1 .0 ∙ c .before .before .before .before .before .before .before .before .before .before .before .before .before .before .loop .inv .1)
-
-same-length-4 : tie.Need-same-length-4 Inv-loop μ-loop
-same-length-4 c = search needs
-
-same-length-5 : tie.Need-same-length-5 Inv-loop μ-loop
-same-length-5 c = search needs
+loop-again c = (walk-goes _ _ _ _ _ (c .before .before .before .before .before .before .before .before .before .before .before .before .before .before .before .before .before .before .before .before .loop .inv .0) (search needs) _ _ _ (c .before .before .before .before .before .before .before .before .before .before .before .before .before .expand .result) (c .before .before .before .before .before .before .before .before .before .before .before .before .before .expand .ensures) _ (c .before .more .given .1) (c .before .before .before .before .before .before .before .before .before .before .before .before .before .expand .kept .1 .1 .1 .1 .1 .0), c .before .before .before .before .before .before .before .before .before .before .before .before .before .expand .kept .1 .1 .1 .1 .1 .1 .1 .0 ∙ c .before .before .before .before .before .before .before .before .before .before .before .before .before .before .before .before .before .before .before .before .loop .inv .1, c .before .before .before .before .before .before .before .before .before .before .before .before .before .expand .kept .1 .1 .1 .1 .1 .1 .1 .1 .0 ∙ c .before .before .before .before .before .before .before .before .before .before .before .before .before .before .before .before .before .before .before .before .loop .inv .2, c .before .before .before .before .before .before .before .before .before .before .before .before .before .expand .kept .1 .1 .1 .1 .1 .1 .1 .1 .1 .0 ∙ c .before .before .before .before .before .before .before .before .before .before .before .before .before .before .before .before .before .before .before .before .loop .inv .3)
 
 same-length-6 : tie.Need-same-length-6 Inv-loop μ-loop
 same-length-6 c = search needs
+
+same-length-7 : tie.Need-same-length-7 Inv-loop μ-loop
+same-length-7 c = search needs
+
+same-length-8 : tie.Need-same-length-8 Inv-loop μ-loop
+same-length-8 c = search needs
+
+same-length-9 : tie.Need-same-length-9 Inv-loop μ-loop
+same-length-9 c = search needs
+
+same-length-10 : tie.Need-same-length-10 Inv-loop μ-loop
+same-length-10 c = search needs
 
 returns-2 : tie.Need-returns-2 Inv-loop μ-loop
 returns-2 c = walk-all _ _ _ _ _ (c .before .loop .inv .0) (omega arith)
@@ -74,11 +89,15 @@ walk-spec =
     same-length
     same-length-2
     same-length-3
+    same-length-4
+    same-length-5
     returns
     add-i
     loop-less
     loop-again
-    same-length-4
-    same-length-5
     same-length-6
+    same-length-7
+    same-length-8
+    same-length-9
+    same-length-10
     returns-2)
