@@ -20,7 +20,8 @@ use Rattle.places.proofs.Search.{length-values}
 use Rattle.kinds.specs.Kinds.{made}
 use Rattle.places.specs.Memory.{spliced, Apart}
 use Rattle.search.specs.Kept.{keptIn, Index, Holds}
-use Rattle.expand.specs.Taken.{Settles, grown, foundBytes, nextsFor, rowFor, rowIn, Taken, TakenAs, Asks, ExpandAsks}
+use Rattle.settle.specs.Settles.{Settles, Asks}
+use Rattle.expand.specs.Taken.{grown, foundBytes, nextsFor, rowFor, rowIn, Taken, TakenAs, ExpandAsks}
 use Rattle.kinds.specs.declared.Plan.{Plan}
 use Rattle.expand.specs.declared.Grown.{Grown}
 use Rattle.expand.specs.declared.Grown.the-variants.{Held, Full}

@@ -6,21 +6,14 @@ use lib.ListN.{length}
 use Rattle.paper.specs.Tables.{rowSize, twoBytes}
 use Rattle.kinds.specs.declared.Plan.{Plan}
 use Rattle.paper.specs.Lists.{joined}
-use Rattle.paper.specs.Numbering.{place, kept, expanded}
+use Rattle.paper.specs.Numbering.{place, expanded}
 use Rattle.paper.specs.Constructions.{Construction}
 use Rattle.kinds.specs.Kinds.{made}
-use Rattle.kinds.specs.Ready.{Ready, Value}
+use Rattle.kinds.specs.Ready.{Ready}
 use Rattle.places.specs.Memory.{Apart}
 use Rattle.expand.specs.declared.Grown.{Grown}
 use Rattle.expand.specs.declared.Grown.the-variants.{Held, Full}
 use Rattle.search.specs.Kept.{keptIn, Index, Holds}
-
--- letter x's candidate from v settled: its place, and how many are kept with it
-pub record Settles (p : Plan) (c t : List ℕ) (x : ℕ) (v old new : List ℕ) (index : Index) (held at more : ℕ) : Type 0 where
-  pub place-is : at ≡ place (made p c t .key) (keptIn p held old) (made p c t .step x v)
-  pub kept-is : keptIn p more new ≡ kept (made p c t .key) (keptIn p held old) (made p c t .step x v)
-  pub holds : Holds c p new index more
-  pub apart : Apart (p .stride) (p .width) (suc (p .room)) old new
 
 -- the states once v's letters are all taken, from `held` kept in `old`
 abbrev pub grown : Plan → List ℕ → List ℕ → ℕ → List ℕ → List ℕ → List (List ℕ)
@@ -51,13 +44,6 @@ pub record Taken (p : Plan) (c t : List ℕ) (held : ℕ) (v due row old new : L
 abbrev pub TakenAs : Plan → List ℕ → List ℕ → ℕ → List ℕ → List ℕ → List ℕ → List ℕ → List ℕ → Index → Grown → Type 0
 TakenAs p c t held v due row old new index Full = p .room < length (grown p c t held v old)
 TakenAs p c t held v due row old new index (Held h) = Taken p c t held v due row old new index h
-
--- what taking the letters of a value asks for
-pub record Asks (p : Plan) (c t : List ℕ) (held : ℕ) (v vectors : List ℕ) (index : Index) : Type 0 where
-  pub ready : Ready c t p
-  pub roomy : held ≤ p .room
-  pub value : Value (p .shape .k) (p .width) v
-  pub holds : Holds c p vectors index held
 
 -- and expanding state i
 pub record ExpandAsks (p : Plan) (c t : List ℕ) (i held : ℕ) (table vectors : List ℕ) (index : Index) : Type 0 where

@@ -10,7 +10,7 @@ use Rattle.expand.proofs.expand.Statement.{statement}
 use Rattle.expand.proofs.expand.Tie as tie
 use Rattle.expand.proofs.expand.Reads as reads
 use Rattle.expand.proofs.expand.Lts as lts
-use Rattle.expand.proofs.copy_of.Reads as copy-of-reads
+use Rattle.settle.proofs.copy_of.Reads as copy-of-reads
 use Rattle.expand.proofs.write_row.Reads as write-row-reads
 
 mul-copy-of : tie.Need-mul-copy-of

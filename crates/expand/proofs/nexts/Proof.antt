@@ -10,8 +10,8 @@ use Rattle.expand.proofs.nexts.Statement.{statement}
 use Rattle.expand.proofs.nexts.Tie as tie
 use Rattle.expand.proofs.nexts.Reads as reads
 use Rattle.expand.proofs.nexts.Lts as lts
-use Rattle.expand.proofs.put_two.Reads as put-two-reads
-use Rattle.expand.proofs.settle.Reads as settle-reads
+use Rattle.settle.proofs.put_two.Reads as put-two-reads
+use Rattle.settle.proofs.settle.Reads as settle-reads
 
 abbrev Inv-loop : tie.InvT-loop
 Inv-loop plan chart reverse v first row₀ vectors₀ heads₀ links₀ marks₀ held₀ x₀ row vectors heads links marks held x =

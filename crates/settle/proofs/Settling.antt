@@ -16,7 +16,7 @@ use Rattle.kinds.specs.Kinds.{made}
 use Rattle.kinds.specs.Ready.{Value}
 use Rattle.places.specs.Memory.{spliced, Apart}
 use Rattle.search.specs.Kept.{keptIn, Index, Holds, heldWith, Sought}
-use Rattle.expand.specs.Taken.{Settles, Asks}
+use Rattle.settle.specs.Settles.{Settles, Asks}
 use Rattle.kinds.specs.declared.Plan.{Plan}
 use Rattle.places.proofs.Memory.{lent-from, values-more, place-here, place-before, values-before, apart-spliced}
 use Rattle.kinds.proofs.KindLaws.{made-step}

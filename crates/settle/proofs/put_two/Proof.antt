@@ -3,10 +3,10 @@ use native.Mathlib.Omega.{arith}
 use Rattle.paper.specs.Tables.{twoBytes}
 use Rattle.places.proofs.Memory.{set-two}
 use borrow.Author.Needs.{needs}
-use Rattle.expand.proofs.put_two.Statement.{statement}
-use Rattle.expand.proofs.put_two.Tie as tie
-use Rattle.expand.proofs.put_two.Reads as reads
-use Rattle.expand.proofs.put_two.Lts as lts
+use Rattle.settle.proofs.put_two.Statement.{statement}
+use Rattle.settle.proofs.put_two.Tie as tie
+use Rattle.settle.proofs.put_two.Reads as reads
+use Rattle.settle.proofs.put_two.Lts as lts
 
 cast-row : tie.Need-cast-row
 cast-row c = search needs

@@ -5,10 +5,10 @@ use Prim.Native.Nat.{_≤_, _-_}
 use lib.ListN.{length, take, drop}
 use Rattle.places.proofs.Memory.{copy-more}
 use borrow.Author.Needs.{needs}
-use Rattle.expand.proofs.copy_of.Statement.{statement}
-use Rattle.expand.proofs.copy_of.Tie as tie
-use Rattle.expand.proofs.copy_of.Reads as reads
-use Rattle.expand.proofs.copy_of.Lts as lts
+use Rattle.settle.proofs.copy_of.Statement.{statement}
+use Rattle.settle.proofs.copy_of.Tie as tie
+use Rattle.settle.proofs.copy_of.Reads as reads
+use Rattle.settle.proofs.copy_of.Lts as lts
 
 abbrev Inv-loop : tie.InvT-loop
 Inv-loop vectors from w copy₀ j₀ copy j = (j ≤ w) × (length copy ≡ 128) × (take j copy ≡ take j (drop from vectors))

@@ -2,12 +2,12 @@
 use lib.ListN.{length-take, length-drop}
 use native.Mathlib.Omega.{arith}
 use Rattle.search.proofs.Found.{place-inside, place-small}
-use Rattle.expand.proofs.Settling.{still-holds, new-value, settled-new, settled-old}
+use Rattle.settle.proofs.Settling.{still-holds, new-value, settled-new, settled-old}
 use borrow.Author.Needs.{needs}
-use Rattle.expand.proofs.settle.Statement.{statement}
-use Rattle.expand.proofs.settle.Tie as tie
-use Rattle.expand.proofs.settle.Reads as reads
-use Rattle.expand.proofs.settle.Lts as lts
+use Rattle.settle.proofs.settle.Statement.{statement}
+use Rattle.settle.proofs.settle.Tie as tie
+use Rattle.settle.proofs.settle.Reads as reads
+use Rattle.settle.proofs.settle.Lts as lts
 use Rattle.kinds.proofs.step_into.Reads as step-into-reads
 use Rattle.search.proofs.seek.Reads as seek-reads
 
