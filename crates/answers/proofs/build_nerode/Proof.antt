@@ -1,0 +1,25 @@
+-- `answers::build_nerode` meets its contract. Assumes nothing.
+use Rattle.answers.proofs.Made.{nerode-made}
+use borrow.Author.Needs.{needs}
+use Rattle.answers.proofs.build_nerode.Statement.{statement}
+use Rattle.answers.proofs.build_nerode.Tie as tie
+
+vector-buffer-requires : tie.Need-vector-buffer-requires
+vector-buffer-requires c κs = search needs
+
+slice-aggregate-nerode : tie.Need-slice-aggregate-nerode
+slice-aggregate-nerode c = search needs
+
+nerode-requires : tie.Need-nerode-requires
+nerode-requires c κs = search needs
+
+same-length : tie.Need-same-length
+same-length c = search needs
+
+returns : tie.Need-returns
+returns c = nerode-made _ _ (c .before .before .before .before .before .before .before .before .before .pre) (c .before .before .before .before .before .before .vector-buffer .ensures) (c .before .before .before .nerode .ensures)
+
+pub build-nerode-spec : {M : Type 1} → statement M
+build-nerode-spec =
+    tie.close
+    (tie.spec vector-buffer-requires slice-aggregate-nerode nerode-requires same-length returns)
