@@ -29,7 +29,8 @@ use Rattle.frames.proofs.FrameWritten.{length-frame}
 use Rattle.rows.proofs.Rows.{size-parts}
 use Rattle.chart.proofs.Checked.{fits-refused}
 use Rattle.printing.proofs.Printed.{length-rows}
-use Rattle.answers.specs.Answers.{Answered, SizeOf, answerMost, Shown, Sound}
+use Rattle.answers.specs.Answers.{Answered, SizeOf, answerMost}
+use Rattle.made.specs.Made.{Shown, Sound}
 
 -- ---- the size
 

@@ -1,6 +1,8 @@
 // What the three programs print, from a chart's text: a table's text, or one refusal line.
+use made::build_brz;
+use made::build_nerode;
+use made::build_reduced;
 use paper::Built;
-use paper::BuiltBoth;
 use paper::Checked;
 use paper::Refusal;
 use paper::Written;
@@ -9,16 +11,12 @@ ghost use Prim.Native.Nat.{_≤_};
 ghost use lib.ListN.{length};
 ghost use Rattle.paper.specs.Replies.{said, builtSaid};
 ghost use Rattle.paper.specs.Chart.{letters};
-ghost use Rattle.paper.specs.Builders.{blank, blankTable, blankVectors};
+ghost use Rattle.paper.specs.Builders.{blank, blankTable};
 ghost use Rattle.pages.specs.Texts.{chartMost, refusalText, tableText};
-ghost use Rattle.pages.specs.Programs.{programRoom, programReverse, programLent, builtText, program, nerodeMakes, reducedMakes, brzMakes};
+ghost use Rattle.pages.specs.Programs.{programRoom, builtText, program, nerodeMakes, reducedMakes, brzMakes};
 ghost use Rattle.io.specs.Counts.{Counts};
-ghost use Rattle.answers.specs.Answers.{Answered, SizeOf, answerMost, Shown, Sound, Made, makes};
-
-// The programs' rooms.
-const ROOM: usize = 128;
-
-const REVERSE_ROOM: usize = 64;
+ghost use Rattle.answers.specs.Answers.{Answered, SizeOf, answerMost, makes};
+ghost use Rattle.made.specs.Made.{Shown, Sound, Made};
 
 // The three programs.
 pub enum Program {
@@ -39,34 +37,6 @@ fn table_buffer() -> [u8; 4224]
     ensures { λ r. ⌜ r ≡ blankTable programRoom ⌝ }
 {
     [0; 4224]
-}
-
-// Places for 128 states and one more, of 24 bytes each.
-fn vector_buffer() -> [u8; 3096]
-    ensures { λ r. ⌜ r ≡ blankVectors programRoom ⌝ }
-{
-    [0; 3096]
-}
-
-// Rows for 64 reverse vectors of 16 letters.
-fn reverse_table_buffer() -> [u8; 2112]
-    ensures { λ r. ⌜ r ≡ blankTable programReverse ⌝ }
-{
-    [0; 2112]
-}
-
-// Places for 64 reverse vectors and one more, of 24 bytes each.
-fn reverse_vector_buffer() -> [u8; 1560]
-    ensures { λ r. ⌜ r ≡ blankVectors programReverse ⌝ }
-{
-    [0; 1560]
-}
-
-// Places for 128 states and one more, of 64 bytes each.
-fn row_buffer() -> [u8; 8256]
-    ensures { λ r. ⌜ r ≡ programLent .rows ⌝ }
-{
-    [0; 8256]
 }
 
 // How many bytes were written. Nothing is refused where it is called.
@@ -112,44 +82,6 @@ fn finish(chart: &[u8], table: &[u8], built: Built, out: &mut [u8]) -> usize
     match built {
         Built::Refused(why) => refuse(why, out),
         Built::States(count) => show(chart, table, count, out),
-    }
-}
-
-// The table of a chart that was read, into a table of zeros; and so the other two.
-fn build_nerode(chart: &[u8], table: &mut [u8]) -> Built
-    requires { ⌜ now table ≡ blankTable programRoom ⌝ }
-    ensures { λ r. ⌜ Made (nerodeMakes (now (chart .entry))) (now (chart .entry)) (now (table .exit)) (builtSaid r) ⌝ }
-{
-    let mut vectors = vector_buffer();
-    forward::nerode(chart, ROOM, table, &mut vectors)
-}
-
-fn build_reduced(chart: &[u8], table: &mut [u8]) -> Built
-    requires { ⌜ now table ≡ blankTable programRoom ⌝ }
-    ensures { λ r. ⌜ Made (reducedMakes (now (chart .entry))) (now (chart .entry)) (now (table .exit)) (builtSaid r) ⌝ }
-{
-    let mut vectors = vector_buffer();
-    forward::reduced(chart, ROOM, table, &mut vectors)
-}
-
-fn build_brz(chart: &[u8], table: &mut [u8]) -> Built
-    requires { ⌜ now table ≡ blankTable programRoom ⌝ }
-    ensures { λ r. ⌜ Made (brzMakes (now (chart .entry))) (now (chart .entry)) (now (table .exit)) (builtSaid r) ⌝ }
-{
-    let mut reverse_table = reverse_table_buffer();
-    let mut reverse_vectors = reverse_vector_buffer();
-    let mut rows = row_buffer();
-    match backward::brzozowski(
-        chart,
-        ROOM,
-        REVERSE_ROOM,
-        table,
-        &mut reverse_table,
-        &mut reverse_vectors,
-        &mut rows,
-    ) {
-        BuiltBoth::Refused(why) => Built::Refused(why),
-        BuiltBoth::States(count, _) => Built::States(count),
     }
 }
 

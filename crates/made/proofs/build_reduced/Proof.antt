@@ -1,8 +1,8 @@
 -- `answers::build_reduced` meets its contract. Assumes nothing.
-use Rattle.answers.proofs.Made.{reduced-made}
+use Rattle.made.proofs.Made.{reduced-made}
 use borrow.Author.Needs.{needs}
-use Rattle.answers.proofs.build_reduced.Statement.{statement}
-use Rattle.answers.proofs.build_reduced.Tie as tie
+use Rattle.made.proofs.build_reduced.Statement.{statement}
+use Rattle.made.proofs.build_reduced.Tie as tie
 
 vector-buffer-requires : tie.Need-vector-buffer-requires
 vector-buffer-requires c κs = search needs

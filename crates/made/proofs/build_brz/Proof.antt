@@ -1,8 +1,8 @@
 -- `answers::build_brz` meets its contract. Assumes nothing.
-use Rattle.answers.proofs.Made.{brz-made, first-made}
+use Rattle.made.proofs.Made.{brz-made, first-made}
 use borrow.Author.Needs.{needs}
-use Rattle.answers.proofs.build_brz.Statement.{statement}
-use Rattle.answers.proofs.build_brz.Tie as tie
+use Rattle.made.proofs.build_brz.Statement.{statement}
+use Rattle.made.proofs.build_brz.Tie as tie
 
 reverse-table-buffer-requires : tie.Need-reverse-table-buffer-requires
 reverse-table-buffer-requires c κs = search needs

@@ -15,7 +15,7 @@ use Rattle.pages.specs.Programs.{programRoom, programReverse, programLent, orRe
 use Rattle.promises.proofs.Answers.{forward-admits, forward-cases, backward-admits, backward-cases}
 use Rattle.promises.proofs.Forward.{nerode-faithful, reduced-faithful}
 use Rattle.promises.proofs.Backward.{brzozowski-faithful}
-use Rattle.answers.specs.Answers.{Sound, Made}
+use Rattle.made.specs.Made.{Sound, Made}
 
 -- ---- Nerode and reduced
 
