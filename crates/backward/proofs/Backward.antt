@@ -33,8 +33,8 @@ use Rattle.walk.specs.Walked.{GrowAsks, statesBy, Made, MadeAs}
 use Rattle.backward.specs.Backward.{lent}
 use Rattle.kinds.specs.declared.Kind.{Kind}
 use Rattle.kinds.specs.declared.Plan.{Plan}
-use Rattle.expand.specs.declared.Grown.{Grown}
-use Rattle.expand.specs.declared.Grown.the-variants.{Held, Full}
+use Rattle.nexts.specs.declared.Grown.{Grown}
+use Rattle.nexts.specs.declared.Grown.the-variants.{Held, Full}
 use Rattle.forward.proofs.Whole.{Roomy, roomy, vectorPlan, vector-asks}
 use Rattle.backward.proofs.SameSteps.{states-same, table-same}
 

@@ -1,10 +1,10 @@
 // The Brzozowski table of a chart: the reverse table first, then the rows over it.
 use chart::check;
-use expand::Grown;
 use forward::room_fits;
 use kinds::Kind;
 use kinds::Plan;
 use lists::zero;
+use nexts::Grown;
 use paper::BuiltBoth;
 use paper::Checked;
 use paper::Refusal;

@@ -26,8 +26,8 @@ use Rattle.walk.specs.Walked.{GrowAsks, statesBy, Made, MadeAs}
 use Rattle.kinds.specs.declared.Kind.{Kind}
 use Rattle.kinds.specs.declared.Kind.the-variants.{Nerode, Reduced, Reverse, Rows}
 use Rattle.kinds.specs.declared.Plan.{Plan}
-use Rattle.expand.specs.declared.Grown.{Grown}
-use Rattle.expand.specs.declared.Grown.the-variants.{Held, Full}
+use Rattle.nexts.specs.declared.Grown.{Grown}
+use Rattle.nexts.specs.declared.Grown.the-variants.{Held, Full}
 
 -- ---- rooms
 

@@ -1,9 +1,9 @@
 // The Nerode and the reduced Nerode table of a chart: the calls whose states are vectors.
 use chart::check;
-use expand::Grown;
 use kinds::Kind;
 use kinds::Plan;
 use lists::zero;
+use nexts::Grown;
 use paper::Built;
 use paper::Checked;
 use paper::Refusal;

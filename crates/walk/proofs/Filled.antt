@@ -28,8 +28,8 @@ use Rattle.search.specs.Kept.{keptIn, Index, Holds, heldWith, Sought}
 use Rattle.walk.specs.Walked.{walked, WalkAsks, Walked, WalkedAs, GrowAsks, statesBy, Made}
 use Rattle.places.specs.declared.Place.{Place}
 use Rattle.kinds.specs.declared.Plan.{Plan}
-use Rattle.expand.specs.declared.Grown.{Grown}
-use Rattle.expand.specs.declared.Grown.the-variants.{Held, Full}
+use Rattle.nexts.specs.declared.Grown.{Grown}
+use Rattle.nexts.specs.declared.Grown.the-variants.{Held, Full}
 use Rattle.places.proofs.Memory.{joined-part, length-place, place-byte, place-here, apart-spliced, apart-trans}
 use Rattle.kinds.proofs.KindLaws.{made-first}
 

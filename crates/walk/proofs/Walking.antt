@@ -19,12 +19,13 @@ use Rattle.places.proofs.Search.{length-values, values-at}
 use Rattle.kinds.specs.Kinds.{made}
 use Rattle.places.specs.Memory.{Apart}
 use Rattle.search.specs.Kept.{keptIn, Index, Holds}
-use Rattle.expand.specs.Taken.{grown, foundBytes, nextsFor, rowFor, rowIn, Taken, TakenAs, ExpandAsks}
+use Rattle.nexts.specs.Taken.{grown, foundBytes, nextsFor, rowFor, rowIn, Taken, TakenAs}
+use Rattle.expand.specs.Asked.{ExpandAsks}
 use Rattle.walk.specs.Walked.{walked, WalkAsks, Walked}
 use Rattle.places.specs.Memory.{spliced}
 use Rattle.kinds.specs.declared.Plan.{Plan}
-use Rattle.expand.specs.declared.Grown.{Grown}
-use Rattle.expand.specs.declared.Grown.the-variants.{Held, Full}
+use Rattle.nexts.specs.declared.Grown.{Grown}
+use Rattle.nexts.specs.declared.Grown.the-variants.{Held, Full}
 use Rattle.places.proofs.Memory.{inFront-splice, apart-refl, apart-trans}
 
 -- the states below i expanded, with `held` states kept in `new`

@@ -13,8 +13,8 @@ use Rattle.kinds.specs.Kinds.{made}
 use Rattle.kinds.specs.Ready.{Ready}
 use Rattle.search.specs.Kept.{keptIn, Index, Holds}
 use Rattle.places.specs.Memory.{Apart}
-use Rattle.expand.specs.declared.Grown.{Grown}
-use Rattle.expand.specs.declared.Grown.the-variants.{Held, Full}
+use Rattle.nexts.specs.declared.Grown.{Grown}
+use Rattle.nexts.specs.declared.Grown.the-variants.{Held, Full}
 
 -- the states that the walk ends with, from the value in place 0
 abbrev pub walked : Plan → List ℕ → List ℕ → List ℕ → List (List ℕ)

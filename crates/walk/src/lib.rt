@@ -1,5 +1,4 @@
 // State after state expanded, until there is no further state or they outnumber the room.
-use expand::Grown;
 use expand::expand;
 use kinds::Plan;
 use kinds::put_first;
@@ -7,6 +6,7 @@ use lists::zero;
 use marks::chains::no_heads;
 use marks::chains::no_links;
 use marks::chains::no_marks;
+use nexts::Grown;
 use search::seek;
 ghost use Rattle.walk.specs.Walked.{WalkAsks, WalkedAs, GrowAsks, MadeAs};
 

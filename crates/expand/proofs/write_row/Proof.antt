@@ -12,7 +12,7 @@ use Rattle.expand.proofs.write_row.Tie as tie
 use Rattle.expand.proofs.write_row.Reads as reads
 use Rattle.expand.proofs.write_row.Lts as lts
 use Rattle.kinds.proofs.grade_by.Reads as grade-by-reads
-use Rattle.expand.proofs.nexts.Reads as nexts-reads
+use Rattle.nexts.proofs.nexts.Reads as nexts-reads
 
 grade-by-requires : tie.Need-grade-by-requires
 grade-by-requires c κs = (c .before .before .before .before .before .before .before .before .pre .0 .ready .sized, c .before .before .before .before .before .before .before .before .pre .0 .value)

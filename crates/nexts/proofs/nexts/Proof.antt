@@ -4,12 +4,12 @@ use mathlib.Core.Path.{_≡_, refl, _∙_}
 use lib.ListN.{length}
 use Prim.Native.Nat.{_-_}
 use native.Mathlib.Omega.{arith}
-use Rattle.expand.proofs.Growing.{NextsTo, nexts-none, nexts-asks, nexts-more, nexts-full, nexts-all}
+use Rattle.nexts.proofs.Letters.{NextsTo, nexts-none, nexts-asks, nexts-more, nexts-full, nexts-all}
 use borrow.Author.Needs.{needs}
-use Rattle.expand.proofs.nexts.Statement.{statement}
-use Rattle.expand.proofs.nexts.Tie as tie
-use Rattle.expand.proofs.nexts.Reads as reads
-use Rattle.expand.proofs.nexts.Lts as lts
+use Rattle.nexts.proofs.nexts.Statement.{statement}
+use Rattle.nexts.proofs.nexts.Tie as tie
+use Rattle.nexts.proofs.nexts.Reads as reads
+use Rattle.nexts.proofs.nexts.Lts as lts
 use Rattle.settle.proofs.put_two.Reads as put-two-reads
 use Rattle.settle.proofs.settle.Reads as settle-reads
 

@@ -1,18 +1,17 @@
--- What expanding a state requires and leaves, by the definitions.
+-- What taking all letters of a state leaves, by the definitions.
 use mathlib.Core.Path.{_≡_}
 use mathlib.Core.List.{List, _∷_}
-use Prim.Native.Nat.{ℕ, suc, _*_, _≤_, _<_}
+use Prim.Native.Nat.{ℕ, suc, _≤_, _<_}
 use lib.ListN.{length}
-use Rattle.paper.specs.Tables.{rowSize, twoBytes}
+use Rattle.paper.specs.Tables.{twoBytes}
 use Rattle.kinds.specs.declared.Plan.{Plan}
 use Rattle.paper.specs.Lists.{joined}
 use Rattle.paper.specs.Numbering.{place, expanded}
 use Rattle.paper.specs.Constructions.{Construction}
 use Rattle.kinds.specs.Kinds.{made}
-use Rattle.kinds.specs.Ready.{Ready}
 use Rattle.places.specs.Memory.{Apart}
-use Rattle.expand.specs.declared.Grown.{Grown}
-use Rattle.expand.specs.declared.Grown.the-variants.{Held, Full}
+use Rattle.nexts.specs.declared.Grown.{Grown}
+use Rattle.nexts.specs.declared.Grown.the-variants.{Held, Full}
 use Rattle.search.specs.Kept.{keptIn, Index, Holds}
 
 -- the states once v's letters are all taken, from `held` kept in `old`
@@ -44,11 +43,3 @@ pub record Taken (p : Plan) (c t : List ℕ) (held : ℕ) (v due row old new : L
 abbrev pub TakenAs : Plan → List ℕ → List ℕ → ℕ → List ℕ → List ℕ → List ℕ → List ℕ → List ℕ → Index → Grown → Type 0
 TakenAs p c t held v due row old new index Full = p .room < length (grown p c t held v old)
 TakenAs p c t held v due row old new index (Held h) = Taken p c t held v due row old new index h
-
--- and expanding state i
-pub record ExpandAsks (p : Plan) (c t : List ℕ) (i held : ℕ) (table vectors : List ℕ) (index : Index) : Type 0 where
-  pub ready : Ready c t p
-  pub below : i < held
-  pub roomy : held ≤ p .room
-  pub holds : Holds c p vectors index held
-  pub table-fits : p .room * rowSize (p .shape .letters) ≤ length table
