@@ -1,4 +1,4 @@
-// The four constructions, and what sets them apart: the first value, a letter's step and the grade. All but the types have a `requires`, so only proved code may call them.
+// The four constructions, and what sets them apart: the first value, a letter's step and the grade. Most have a `requires`, so only proved code may call them.
 use paper::Shape;
 use vectors::times::end_grade;
 use vectors::times::put_grades;
