@@ -28,7 +28,7 @@ use Rattle.lists.proofs.Tests.{not-both, both-left, both-right}
 use Rattle.frames.proofs.FrameWritten.{length-frame}
 use Rattle.rows.proofs.Rows.{size-parts}
 use Rattle.chart.proofs.Checked.{fits-refused}
-use Rattle.printing.proofs.Printed.{length-rows}
+use Rattle.row_lines.proofs.RowLines.{length-rows}
 use Rattle.answers.specs.Answers.{Answered, SizeOf, answerMost}
 use Rattle.made.specs.Made.{Shown, Sound}
 

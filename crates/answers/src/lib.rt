@@ -54,7 +54,7 @@ fn refuse(why: Refusal, out: &mut [u8]) -> usize
     requires { ⌜ answerMost ≤ length (now out) ⌝ }
     ensures { λ r. ⌜ Answered (refusalText (said why .0)) (now (out .entry)) (now (out .exit)) r ⌝ }
 {
-    size_of(printing::print_refusal(paper::number(why), out))
+    size_of(refusals::print_refusal(paper::number(why), out))
 }
 
 // The table's text. A chart that a table was built of is not refused.

@@ -1,2 +1,1 @@
-pub mod SameSteps
-pub mod Backward
+pub mod Before

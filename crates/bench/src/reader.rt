@@ -40,7 +40,7 @@ impl<'a> Reader<'a> {
     pub fn grade(self) -> Graded
         ensures { λ g. ⌜ gradedSaid g ≡ gradeOf (self .entry) ⌝ }
     {
-        tables::grade(self.rows, self.count, self.m, self.state)
+        steps::grade(self.rows, self.count, self.m, self.state)
     }
 }
 
@@ -64,7 +64,7 @@ fn state_after(state: usize, answer: Stepped) -> usize
 fn read_letter(rows: &[u8], count: usize, m: usize, state: usize, letter: usize) -> Read
     ensures { λ r. ⌜ (steppedSaid (r .answer) ≡ stepReply (now (rows .entry)) count m state letter) × (r .state ≡ readerTakes (now (rows .entry)) count m letter state) ⌝ }
 {
-    let answer = tables::step(rows, count, m, state, letter);
+    let answer = steps::step(rows, count, m, state, letter);
     Read {
         state: state_after(state, answer),
         answer,

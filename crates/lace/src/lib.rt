@@ -34,7 +34,7 @@ fn grade_number(answer: Graded) -> u8
 pub extern "C" fn lace_step(rows: &[u8], count: usize, m: usize, state: usize, letter: usize) -> u16
     ensures { λ r. ⌜ r ≡ stepCode (stepReply (now (rows .entry)) count m state letter) ⌝ }
 {
-    step_number(tables::step(rows, count, m, state, letter))
+    step_number(steps::step(rows, count, m, state, letter))
 }
 
 // The grade of a state.
@@ -42,5 +42,5 @@ pub extern "C" fn lace_step(rows: &[u8], count: usize, m: usize, state: usize, l
 pub extern "C" fn lace_grade(rows: &[u8], count: usize, m: usize, state: usize) -> u8
     ensures { λ r. ⌜ r ≡ gradeCode (gradeReply (now (rows .entry)) count m state) ⌝ }
 {
-    grade_number(tables::grade(rows, count, m, state))
+    grade_number(steps::grade(rows, count, m, state))
 }

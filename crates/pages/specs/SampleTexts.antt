@@ -6,7 +6,7 @@ use Prim.Native.String.{String}
 use lib.ListN.{length, take, set}
 use Rattle.paper.specs.Builders.{blank}
 use Rattle.paper.specs.Figures.{chartE, tableE, reply}
-use Rattle.paper.specs.SampleBuilds.{nines}
+use Rattle.paper.specs.NearCases.{nines}
 use Rattle.pages.specs.Texts.{Filled, linesOfText, linesRead, readChart, printTable, printRefusal}
 use Rattle.pages.specs.Programs.{program, nerodeMakes, reducedMakes, brzMakes}
 

@@ -1,4 +1,4 @@
--- P1 to P13 as document 01 states them, and the further cases: each one computation against the definitions. Assumes nothing.
+-- P1 to P13 as document 01 states them, and the near cases: each one computation against the definitions. Assumes nothing.
 use mathlib.Core.Path.{_≡_, refl}
 use Rattle.paper.specs.Lists.{both, allBelow, leastFail, tabulate, joined, part, sameList, inFront}
 use Rattle.paper.specs.Words.{after}
@@ -11,9 +11,7 @@ use Rattle.paper.specs.Constructions.{statesOf, nextBytes, rowOf, stateR
 use Rattle.paper.specs.Builders.{placeOf, placed, vectorAt, roomFits, forwardRoom, forwardBuilt, forward, nerode, reduced, allZeros, backwardRoom, backwardBuilt, brzozowski}
 use Rattle.paper.specs.Sheets.{lineAt, lineState, lineVector, lineGradeFits, lineFits, sheetFits, otherPair, onSheet, gradeHolds, nextHolds, lineHolds, badLine, lineReply, sheetReply}
 use Rattle.paper.specs.Figures.{chartE, tableE, sheetE, chart32, chart2, chart13, reply, nerodeIn, reducedIn, brzIn, count, worked, stated}
-use Rattle.paper.specs.SampleCharts.{bare, larger, largerOfFour, brokenTables, brokenDue, shortCharts, orderE, oneSided, oneSidedWords, chartsTried, chartsDue}
-use Rattle.paper.specs.SampleBuilds.{nines, forwardLeft, backwardLeft, forwards, nerodeE, vectorsE, forwardsDue, toldByGrade, toldByLast, apart, apartDue, wordsE, wordsDue, lentE, backwards, backwardsDue, buildsTried, buildsDue}
-use Rattle.paper.specs.SampleWalks.{steps, stepsDue, grades, gradesDue, sheets, walksTried, walksDue}
+use Rattle.paper.specs.NearCases.{bare, unitBetween, larger, largerOfFour, oneSided, oneSidedWords, nines, forwardLeft, toldByGrade, forwards, nerodeE, vectorsE, forwardsDue, placesLeft, nearTried, nearDue}
 
 -- what opens the definitions of each file, for the computations below
 of-lists : Unit {0}
@@ -60,35 +58,19 @@ of-figures : Unit {0}
 unfolding chartE tableE sheetE chart32 chart2 chart13 reply nerodeIn reducedIn brzIn count worked stated
 of-figures = tt
 
-of-sample-charts : Unit {0}
-unfolding bare larger largerOfFour brokenTables brokenDue shortCharts orderE oneSided oneSidedWords chartsTried chartsDue
-of-sample-charts = tt
+of-near-cases : Unit {0}
+unfolding bare unitBetween larger largerOfFour oneSided oneSidedWords nines forwardLeft toldByGrade forwards nerodeE vectorsE forwardsDue placesLeft nearTried nearDue
+of-near-cases = tt
 
-of-sample-builds : Unit {0}
-unfolding nines forwardLeft backwardLeft forwards nerodeE vectorsE forwardsDue toldByGrade toldByLast apart apartDue wordsE wordsDue lentE backwards backwardsDue buildsTried buildsDue
-of-sample-builds = tt
-
-of-sample-walks : Unit {0}
-unfolding steps stepsDue grades gradesDue sheets walksTried walksDue
-of-sample-walks = tt
-
--- pages/ opens them too
+-- samples/ and pages/ open them too
 unfoldable pub definitions : Unit {0}
-unfolding of-lists of-words of-chart of-check of-vectors of-numbering of-tables of-constructions of-builders of-sheets of-figures of-sample-charts of-sample-builds of-sample-walks
+unfolding of-lists of-words of-chart of-check of-vectors of-numbering of-tables of-constructions of-builders of-sheets of-figures of-near-cases
 definitions = tt
 
 pub figures : worked ≡ stated
 unfolding definitions
 figures = refl
 
-pub samples-of-charts : chartsTried ≡ chartsDue
+pub near-cases : nearTried ≡ nearDue
 unfolding definitions
-samples-of-charts = refl
-
-pub samples-of-builds : buildsTried ≡ buildsDue
-unfolding definitions
-samples-of-builds = refl
-
-pub samples-of-walks : walksTried ≡ walksDue
-unfolding definitions
-samples-of-walks = refl
+near-cases = refl

@@ -10,6 +10,4 @@ pub mod Constructions
 pub mod Builders
 pub mod Sheets
 pub mod Figures
-pub mod SampleCharts
-pub mod SampleBuilds
-pub mod SampleWalks
+pub mod NearCases

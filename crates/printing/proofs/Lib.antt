@@ -1,3 +1,1 @@
-pub mod TextSize
-pub mod Printed
 pub mod TableText

@@ -20,10 +20,11 @@ use Rattle.pages.specs.Texts.{Filled, printed, rowLine, tableText, tableTextSiz
 use Rattle.chart.proofs.Checked.{shaped, fits-fine, fits-refused}
 use Rattle.rows.proofs.Rows.{size-parts}
 use Rattle.card.proofs.Caps.{size-beside}
-use Rattle.printing.specs.Printing.{RowsIn, TableIn, TablePut}
+use Rattle.row_lines.specs.RowsIn.{RowsIn}
+use Rattle.printing.specs.Printing.{TableIn, TablePut}
 use Rattle.lists.proofs.Front.{front-more}
 use Rattle.frames.proofs.FrameWritten.{length-frame}
-use Rattle.printing.proofs.Printed.{length-rows}
+use Rattle.row_lines.proofs.RowLines.{length-rows}
 
 -- ---- the text
 

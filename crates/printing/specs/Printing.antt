@@ -1,20 +1,12 @@
--- What the inner functions of the printer ask of their callers.
+-- What printing a table asks of its caller, and what it leaves.
 use mathlib.Core.Path.{_≡_}
 use mathlib.Core.List.{List}
-use Prim.Native.Nat.{ℕ, _*_, _≤_}
+use Prim.Native.Nat.{ℕ, _≤_}
 use lib.ListN.{length}
-use Rattle.paper.specs.Tables.{rowSize}
-use Rattle.pages.specs.Frames.{lineLength}
 use Rattle.paper.specs.Lists.{inFront}
 use Rattle.pages.specs.Texts.{tableTextSize}
 use Rattle.paper.specs.declared.Shape.{Shape}
 use Rattle.card.specs.Capped.{Beside}
-
--- a table's rows are there, with few enough letters that no length is past the largest number, and a buffer has room for their lines
-pub record RowsIn (rows : List ℕ) (count m : ℕ) (text : List ℕ) : Type 0 where
-  pub few : m ≤ 16
-  pub inside : count * rowSize m ≤ length rows
-  pub room : count * lineLength (rowSize m) ≤ length text
 
 -- a table that is not refused beside its chart, and a buffer that has room for its text
 pub record TableIn (c : List ℕ) (s : Shape) (rows : List ℕ) (count m : ℕ) (text : List ℕ) : Type 0 where

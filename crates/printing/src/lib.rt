@@ -1,4 +1,4 @@
-// Printing a refusal, and a table with its cap.
+// Printing a table with its cap.
 use card::inner::cap_of;
 use card::inner::table_fits_chart;
 use chart::check;
@@ -7,63 +7,15 @@ use paper::Checked;
 use paper::Refusal;
 use paper::Shape;
 use paper::Written;
+use row_lines::put_rows;
+use row_lines::text_fits;
 ghost use mathlib.Core.Path.{_≡_};
-ghost use lib.Dec.{leb};
-ghost use Rattle.paper.specs.Lists.{joined, inFront};
 ghost use Rattle.paper.specs.Replies.{writtenSaid};
-ghost use Rattle.pages.specs.Texts.{Filled, printRefusal, rowLine, tableText, tableTextSize, printTable};
-ghost use Rattle.printing.specs.Printing.{RowsIn, TableIn, TablePut};
+ghost use Rattle.pages.specs.Texts.{Filled, tableText, printTable};
+ghost use Rattle.printing.specs.Printing.{TableIn, TablePut};
 
-// A line with one byte of payload, which a refusal's number and the cap are, has so many bytes.
-const ONE_BYTE_LINE: usize = 9;
-
-// One line: a refusal's number.
-pub fn print_refusal(number: u8, text: &mut [u8]) -> Written
-    ensures { λ r. ⌜ _≡_ {A = Filled} (record { reply = writtenSaid r; buffer = now (text .exit) }) (printRefusal number (now (text .entry))) ⌝ }
-{
-    if text.len() < ONE_BYTE_LINE {
-        return Written::Refused(Refusal::Room);
-    }
-    let payload = [number];
-    put_frame(0x7f, &payload, text);
-    Written::Bytes(ONE_BYTE_LINE)
-}
-
-// Whether a table's text fits: its first line has 13 bytes, its last 9, each other 9 + 4 m. The count and m may be any numbers, so
-// the room is divided among the lines, and no product is made that could be past the largest number.
-fn text_fits(count: usize, m: usize, room: usize) -> bool
-    ensures { λ r. ⌜ r ≡ leb (tableTextSize count m) room ⌝ }
-{
-    if room < 22 {
-        return false;
-    }
-    if count == 0 {
-        return true;
-    }
-    let line = (room - 22) / count;
-    if line < 9 {
-        return false;
-    }
-    m <= (line - 9) / 4
-}
-
-// One line a state, to the front of a buffer.
-fn put_rows(rows: &[u8], count: usize, m: usize, text: &mut [u8])
-    requires { ⌜ RowsIn (now rows) count m (now text) ⌝ }
-    ensures { λ _. ⌜ now (text .exit) ≡ inFront (joined count (rowLine (now (rows .entry)) m)) (now (text .entry)) ⌝ }
-{
-    let width = 1 + 2 * m;
-    let mut s = 0;
-    let mut from = 0;
-    let mut at = 0;
-    while s < count {
-        let next = from + width;
-        put_frame(0x12, &rows[from..next], &mut text[at..]);
-        s += 1;
-        from = next;
-        at += 7 + 2 * width;
-    }
-}
+// The cap's line has so many bytes.
+const CAP_LINE: usize = 9;
 
 // A table beside its chart, to the front of a buffer: the count and m, one line a state, the cap.
 fn put_table(
@@ -86,7 +38,7 @@ fn put_table(
     let cap = [cap_of(chart, shape, rows, count, m)];
     let at = 13 + count * (9 + 4 * m);
     put_frame(0x13, &cap, &mut text[at..]);
-    at + ONE_BYTE_LINE
+    at + CAP_LINE
 }
 
 // A table beside its chart, with its cap.

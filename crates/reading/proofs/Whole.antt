@@ -21,9 +21,10 @@ use Rattle.chart.proofs.Ranges.{sizes-are}
 use Rattle.chart.proofs.Checked.{shaped, fits-fine, fits-refused}
 use Rattle.dues.specs.declared.Counts.{Counts}
 use Rattle.dues.specs.declared.Rule.{Rule}
-use Rattle.reading.specs.declared.Frames.{Frames}
+use Rattle.rest_lines.specs.declared.Frames.{Frames}
 use Rattle.dues.specs.Dues.{Ruled}
-use Rattle.reading.specs.Reading.{RestIn, restLines, ChartRead, LinesSay, zeroedBy}
+use Rattle.rest_lines.specs.Reading.{RestIn, restLines, ChartRead, LinesSay}
+use Rattle.reading.specs.Zeroed.{zeroedBy}
 use Rattle.lists.proofs.Lent.{length-inFront}
 use Rattle.lists.proofs.Front.{front-front}
 use Rattle.frames.proofs.FrameRead.{frame-inside, length-payload}

@@ -2,65 +2,26 @@
 use chart::check;
 use chart::sizes::sizes_fit;
 use dues::Counts;
-use dues::Cursor;
-use dues::behind;
 use dues::rule_of;
-use frames::digits::byte_at;
 use frames::read_frame;
 use lists::zero;
 use paper::Checked;
 use paper::Refusal;
 use paper::Written;
+use rest_lines::Frames;
+use rest_lines::read_rest;
 ghost use mathlib.Core.Path.{_≡_};
 ghost use Prim.Native.Nat.{_≤_};
 ghost use lib.ListN.{length};
 ghost use Rattle.paper.specs.Replies.{writtenSaid};
 ghost use Rattle.pages.specs.Texts.{Filled, chartMost, linesOfText, linesRead, readChart};
-ghost use Rattle.reading.specs.Reading.{RestIn, restLines, LinesSay, zeroedBy};
+ghost use Rattle.rest_lines.specs.Reading.{LinesSay};
+ghost use Rattle.reading.specs.Zeroed.{zeroedBy};
 
 // A text has at most so many bytes, and so has a chart.
 const TEXT_MOST: usize = 22493;
 
 const CHART_MOST: usize = 9780;
-
-// What reading lines comes to: a chart's bytes, so many of them; the first line that is not the frame due there; a head out of range.
-pub enum Frames {
-    Chart(usize),
-    BadLine(usize),
-    BadHead,
-}
-
-// The lines of kinds 02 to 06, to their places of the chart.
-fn read_rest(text: &[u8], counts: Counts, chart: &mut [u8]) -> Frames
-    requires { ⌜ RestIn (now text) counts (now chart) ⌝ }
-    ensures { λ r. ⌜ LinesSay (restLines (now (text .entry)) counts (now (chart .entry))) (now (chart .entry)) (now (chart .exit)) r ⌝ }
-{
-    let head = Cursor {
-        kind: 1,
-        left: 1,
-        line: 1,
-        pos: 0,
-        at: 0,
-    };
-    let mut cursor = behind(head, rule_of(1, counts), counts);
-    while 0 < cursor.left {
-        let pos = cursor.pos;
-        let at = cursor.at;
-        let kind = byte_at(text, pos);
-        if kind != cursor.kind {
-            return Frames::BadLine(cursor.line);
-        }
-        let due = rule_of(kind, counts);
-        if !read_frame(text, pos, kind, due.width, &mut chart[at..]) {
-            return Frames::BadLine(cursor.line);
-        }
-        cursor = behind(cursor, due, counts);
-    }
-    if cursor.pos < text.len() {
-        return Frames::BadLine(cursor.line);
-    }
-    Frames::Chart(cursor.at)
-}
 
 // All lines of a chart, to their places of the buffer.
 fn read_lines(text: &[u8], chart: &mut [u8]) -> Frames

@@ -4,6 +4,9 @@ ghost use Prim.Native.Nat.{_+_, _*_, _<_};
 ghost use Rattle.paper.specs.Tables.{gradeAt, nextAt, sizeFits, rowFits, tableFits};
 ghost use Rattle.rows.specs.RowIn.{RowIn};
 
+// The highest grade a table alone may have is one less.
+pub const GRADE_TOP: u8 = 16;
+
 pub fn wide(x: u8) -> usize
     ensures { λ r. ⌜ (r ≡ x) × (r < 256) ⌝ }
 {

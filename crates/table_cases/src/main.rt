@@ -3,10 +3,10 @@
 // first, then for each walk those of the step, of the state's grade and of the word's.
 use paper::Graded;
 use paper::Stepped;
+use steps::grade;
+use steps::step;
 use tables::check_table;
-use tables::grade;
 use tables::grade_word;
-use tables::step;
 
 fn print_step(stepped: Stepped) {
     match stepped {

@@ -1,59 +1,19 @@
-// Walking a table: one step, one grade, the grade of a word.
+// Checking a table, and the grade of a word by it.
 use paper::Graded;
 use paper::Refusal;
-use paper::Stepped;
 use paper::Verdict;
 use places::Place;
+use rows::GRADE_TOP;
 use rows::grade_at;
 use rows::next_at;
-use rows::row_fits;
-use rows::size_fits;
 use rows::table_fits;
 use rows::wide;
 ghost use mathlib.Core.Path.{_≡_};
 ghost use lib.ListN.{length};
-ghost use Rattle.paper.specs.Tables.{badLetter, tableGrade, tableReply, stepReply, gradeReply, wordReply};
-ghost use Rattle.paper.specs.Replies.{verdictSaid, steppedSaid, gradedSaid};
+ghost use Rattle.paper.specs.Tables.{badLetter, tableGrade, tableReply, wordReply};
+ghost use Rattle.paper.specs.Replies.{verdictSaid, gradedSaid};
 ghost use Rattle.tables.specs.Walking.{Walkable};
 ghost use Rattle.places.specs.Search.{placeFor};
-
-// The highest grade a table alone may have is one less.
-const GRADE_TOP: u8 = 16;
-
-// One step from a state by a letter.
-pub fn step(rows: &[u8], count: usize, m: usize, state: usize, letter: usize) -> Stepped
-    ensures { λ r. ⌜ steppedSaid r ≡ stepReply (now (rows .entry)) count m state letter ⌝ }
-{
-    if !size_fits(rows, count, m) {
-        return Stepped::Refused(Refusal::Table);
-    }
-    if count <= state {
-        return Stepped::Refused(Refusal::Table);
-    }
-    if m <= letter {
-        return Stepped::Refused(Refusal::Letter { at: 0 });
-    }
-    if !row_fits(rows, count, m, GRADE_TOP, state) {
-        return Stepped::Refused(Refusal::Table);
-    }
-    Stepped::Next(next_at(rows, m, state, letter) as u16)
-}
-
-// The grade of a state.
-pub fn grade(rows: &[u8], count: usize, m: usize, state: usize) -> Graded
-    ensures { λ r. ⌜ gradedSaid r ≡ gradeReply (now (rows .entry)) count m state ⌝ }
-{
-    if !size_fits(rows, count, m) {
-        return Graded::Refused(Refusal::Table);
-    }
-    if count <= state {
-        return Graded::Refused(Refusal::Table);
-    }
-    if !row_fits(rows, count, m, GRADE_TOP, state) {
-        return Graded::Refused(Refusal::Table);
-    }
-    Graded::Grade(grade_at(rows, m, state))
-}
 
 // Whether a table, by itself, is one that can be walked from every state.
 pub fn check_table(rows: &[u8], count: usize, m: usize) -> Verdict

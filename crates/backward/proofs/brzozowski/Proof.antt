@@ -1,5 +1,5 @@
 use Rattle.chart.proofs.Checked.{shaped, fits-fine}
-use Rattle.backward.proofs.Backward.{both-refused}
+use Rattle.backward.proofs.Before.{both-refused}
 use borrow.Author.Needs.{needs}
 use Rattle.backward.proofs.brzozowski.Statement.{statement}
 use Rattle.backward.proofs.brzozowski.Tie as tie

@@ -1,12 +1,12 @@
 use denote.Ref.{now}
 use Rattle.lists.proofs.Tests.{fell, held}
-use Rattle.backward.proofs.Backward.{both-room, rooms-read}
+use Rattle.backward.proofs.Before.{both-room, rooms-read}
 use borrow.Author.Needs.{needs}
 use Rattle.backward.proofs.build_both.Statement.{statement}
 use Rattle.backward.proofs.build_both.Tie as tie
 use Rattle.backward.proofs.build_both.Reads as reads
 use Rattle.backward.proofs.build_both.Lts as lts
-use Rattle.backward.proofs.build_rows.Reads as build-rows-reads
+use Rattle.row_build.proofs.build_rows.Reads as build-rows-reads
 use Rattle.backward.proofs.rooms_fit.Reads as rooms-fit-reads
 
 rooms-fit-requires : tie.Need-rooms-fit-requires

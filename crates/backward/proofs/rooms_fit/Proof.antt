@@ -1,13 +1,13 @@
 use native.Mathlib.Omega.{arith}
 use mathlib.Core.Path.{sym}
 use Rattle.lists.proofs.Tests.{fell, held, both-not-right}
-use Rattle.forward.proofs.Whole.{roomy, first-decides}
+use Rattle.rooms.proofs.Rooms.{roomy, first-decides}
 use borrow.Author.Needs.{needs}
 use Rattle.backward.proofs.rooms_fit.Statement.{statement}
 use Rattle.backward.proofs.rooms_fit.Tie as tie
 use Rattle.backward.proofs.rooms_fit.Reads as reads
 use Rattle.backward.proofs.rooms_fit.Lts as lts
-use Rattle.forward.proofs.room_fits.Reads as room-fits-reads
+use Rattle.rooms.proofs.room_fits.Reads as room-fits-reads
 
 room-fits-requires : tie.Need-room-fits-requires
 room-fits-requires c κs = search needs

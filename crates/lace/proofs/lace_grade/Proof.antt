@@ -1,4 +1,4 @@
--- `lace::lace_grade` meets its contract: the number of what `tables::grade` answers. Assumes nothing.
+-- `lace::lace_grade` meets its contract: the number of what `steps::grade` answers. Assumes nothing.
 use borrow.Author.Needs.{needs}
 use mathlib.Core.Path.{ap, _∙_}
 use Rattle.paper.specs.Tables.{gradeCode}

@@ -1,4 +1,4 @@
--- `lace::lace_step` meets its contract: the number of what `tables::step` answers. Assumes nothing.
+-- `lace::lace_step` meets its contract: the number of what `steps::step` answers. Assumes nothing.
 use borrow.Author.Needs.{needs}
 use mathlib.Core.Path.{ap, _∙_}
 use Rattle.paper.specs.Tables.{stepCode}

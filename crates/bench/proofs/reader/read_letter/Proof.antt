@@ -1,4 +1,4 @@
--- `bench::reader::read_letter` meets its contract: the answer of `tables::step`, and the state that this answer leaves. Assumes nothing.
+-- `bench::reader::read_letter` meets its contract: the answer of `steps::step`, and the state that this answer leaves. Assumes nothing.
 use borrow.Author.Needs.{needs}
 use mathlib.Core.Path.{_∙_, ap}
 use Rattle.paper.specs.Tables.{stateAfter, readerTakes}

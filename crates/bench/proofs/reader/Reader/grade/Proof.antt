@@ -1,4 +1,4 @@
--- `bench::reader::Reader::grade` meets its contract: a walk of its MIR, by hand. The struct is taken apart, and `tables::grade` is called on its fields. All that the proof knows of `tables::grade` is that it meets its contract.
+-- `bench::reader::Reader::grade` meets its contract: a walk of its MIR, by hand. The struct is taken apart, and `steps::grade` is called on its fields. All that the proof knows of `steps::grade` is that it meets its contract.
 -- The struct is Copy: what it owns is had twice, one copy is kept whole for the exit, and what the other's fields own goes to the callee, beside the lifetime's token, which comes back.
 -- Assumes nothing.
 use mathlib.Core.Path.{_≡_, refl}
@@ -49,10 +49,10 @@ use Rattle.bench.proofs.reader.Reader as T
 use Rattle.bench.proofs.reader.Reader.Laws as T′
 use Rattle.paper.proofs.Graded as S
 use Rattle.paper.proofs.Graded.Laws as S′
-use Rattle.tables.proofs.grade as callee
-use Rattle.tables.proofs.grade.Symbol as callee-def
-use Rattle.tables.proofs.grade.Symbol.{name as #tables·grade}
-use Rattle.tables.proofs.grade.Met as callee-thm
+use Rattle.steps.proofs.grade as callee
+use Rattle.steps.proofs.grade.Symbol as callee-def
+use Rattle.steps.proofs.grade.Symbol.{name as #steps·grade}
+use Rattle.steps.proofs.grade.Met as callee-thm
 use Rattle.bench.proofs.reader.Reader.grade.Key.{name as #bench·grade}
 use Rattle.bench.proofs.reader.Reader.grade as grade
 use Rattle.bench.proofs.reader.Reader.grade.Statement as stated
@@ -126,7 +126,7 @@ module _ {M : Type 1} (𝓤 : URA M) (H : Heap 𝓤) (A : Atoms 𝓤) (W : Given
       suffices ! _ (ends-at 𝓤 H A grade.ended stayed (grade.clauses 𝓤 H A mem run) W (((κ, tt), (q, tt), tt, (d, tt), (mach ∷ [], tt)), tt) u r (tt, tt) (tt, tt)) $ says ! e $
       move ! (1 ∷ []) $ frame ! $ nothing ! $ move ! (2 ∷ 0 ∷ []) $ fjoin ! $ frame ! $ done !
 
-  module _ (C : Calls 𝓤 H) (Λ : Loops 𝓤 H) (fm : FmC 𝓤 H (W .laws) C) (known : Triple 𝓤 (C #tables·grade) (Asked 𝓤 H A mem run)) where
+  module _ (C : Calls 𝓤 H) (Λ : Loops 𝓤 H) (fm : FmC 𝓤 H (W .laws) C) (known : Triple 𝓤 (C #steps·grade) (Asked 𝓤 H A mem run)) where
     walk : Holds (hasTy (T′.mir (named 0)) mach) × WT mach → ent 𝓤 (onEntry 𝓤 H A grade.signature (κ, tt) (q, tt) (d, tt) (mach ∷ [], tt)) (WpFn 𝓤 H C Λ code.function (mach ∷ []) Post)
     walk wt =
         qed W (raw (onEntry 𝓤 H A grade.signature (κ, tt) (q, tt) (d, tt) (mach ∷ [], tt)) ∷ []) ∵ enter ! C Λ code.function (mach ∷ []) _ $
@@ -146,13 +146,13 @@ module _ {M : Type 1} (𝓤 : URA M) (H : Heap 𝓤) (A : Atoms 𝓤) (W : Given
         move ! (13 ∷ 14 ∷ []) $ free1 ! $ move ! (11 ∷ 12 ∷ []) $ free1 ! $ move ! (9 ∷ 10 ∷ []) $ free1 ! $ move ! (7 ∷ 8 ∷ []) $ free1 ! $ move ! (5 ∷ 6 ∷ []) $ free1 ! $ move ! (3 ∷ 4 ∷ []) $ free1 ! $ free0 ! $ by ! (exits r u e)))))))))))
 
 module _ {M : Type 1} (𝓤 : URA M) (H : Heap 𝓤) (A : Atoms 𝓤) (W : Given 𝓤 H A) (mem : Memory → SProp 𝓤) (run : Routine → Fun 𝓤) where
-  grade-walks : (C : Calls 𝓤 H) (Λ : Loops 𝓤 H) → FmC 𝓤 H (W .laws) C → Triple 𝓤 (C #tables·grade) (Asked 𝓤 H A mem run)
+  grade-walks : (C : Calls 𝓤 H) (Λ : Loops 𝓤 H) → FmC 𝓤 H (W .laws) C → Triple 𝓤 (C #steps·grade) (Asked 𝓤 H A mem run)
       → Walks 𝓤 H A grade.ended stayed (WpFn 𝓤 H C Λ code.function) (grade.clauses 𝓤 H A mem run)
   grade-walks C Λ fm known = walked 𝓤 H A grade.ended stayed (grade.clauses 𝓤 H A mem run) (WpFn 𝓤 H C Λ code.function) (λ κs. (LL.vals (T.the-type (namedLft 1 0 tt κs)) (T′.the-laws (namedLft 1 0 tt κs)), tt)) (λ κs. (LL.tells (T.the-type (namedLft 1 0 tt κs)) (T′.the-laws (namedLft 1 0 tt κs)), tt))
       (λ κs qs bounds a g are. via 𝓤 _ (fst∗ 𝓤 _ (emp 𝓤)) (walk 𝓤 H A W mem run (κs .0) (qs .0) (a .0) C Λ fm known (LL.lawful (T.the-type (namedLft 1 0 tt κs)) (T′.the-laws (namedLft 1 0 tt κs)) 𝓤 H A W .typed (a .0) _ (are .0) .0)))
 
 grade-meets : {M : Type 1} (𝓤 : URA M) (H : Heap 𝓤) (A : Atoms 𝓤) (W : Given 𝓤 H A) (mem : Memory → SProp 𝓤) (run : Routine → Fun 𝓤) (𝓣 : Tables 𝓤 H)
-    → Triple 𝓤 (𝓣 .C #tables·grade) (Asked 𝓤 H A mem run)
+    → Triple 𝓤 (𝓣 .C #steps·grade) (Asked 𝓤 H A mem run)
     → Meets 𝓤 H A grade.signature (WpFn 𝓤 H (𝓣 .C) (𝓣 .Λ) code.function) (grade.spec 𝓤 H A mem run)
 grade-meets 𝓤 H A W mem run 𝓣 known-grade = walk-meets 𝓤 H A grade.ended stayed W (goes-none 𝓤 H A W 1 B yes (λ κs x f. refl), tt) (grade.clauses 𝓤 H A mem run) (WpFn 𝓤 H (𝓣 .C) (𝓣 .Λ) code.function) (WpFn-mono 𝓤 H (W .laws) 𝓣 code.function)
     (grade-walks 𝓤 H A W mem run (𝓣 .C) (𝓣 .Λ) (fmOf 𝓤 H (W .laws) 𝓣) known-grade)
@@ -163,4 +163,4 @@ grade-spec 𝓤 H 𝓜 𝓖 𝓡 =
     entered 𝓤 H (tripleOf 𝓤 H (𝓖 .A) grade.signature (grade.spec 𝓤 H (𝓖 .A) (𝓜 .mem) (𝓡 .run)))
     (tables 𝓤 H 𝓜 𝓡 code.env .C) (tables 𝓤 H 𝓜 𝓡 code.env .Λ) #bench·grade code.function (code.unfolded 𝓤 H 𝓜 𝓡)
     (grade-meets 𝓤 H (𝓖 .A) (givenOf 𝓤 H 𝓜 𝓖) (𝓜 .mem) (𝓡 .run) (tablesOf 𝓤 H 𝓜 (tables 𝓤 H 𝓜 𝓡 code.env))
-    (cited 𝓤 H (Asked 𝓤 H (𝓖 .A) (𝓜 .mem) (𝓡 .run)) 𝓜 𝓡 code.env #tables·grade callee-def.routine code.calls-tables·grade (callee-thm.met 𝓤 H 𝓜 𝓖 𝓡)))
+    (cited 𝓤 H (Asked 𝓤 H (𝓖 .A) (𝓜 .mem) (𝓡 .run)) 𝓜 𝓡 code.env #steps·grade callee-def.routine code.calls-steps·grade (callee-thm.met 𝓤 H 𝓜 𝓖 𝓡)))

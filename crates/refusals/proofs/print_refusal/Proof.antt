@@ -1,0 +1,25 @@
+-- `printing::print_refusal` meets its contract.
+-- Assumes nothing.
+use borrow.Author.Needs.{needs}
+use Rattle.refusals.proofs.Refusal.{refusal-room, refusal-printed}
+use Rattle.refusals.proofs.print_refusal.Statement.{statement}
+use Rattle.refusals.proofs.print_refusal.Tie as tie
+
+returns : tie.Need-returns
+returns c = refusal-room _ _ (c .if1 .taken)
+
+slice-aggregate-put-frame : tie.Need-slice-aggregate-put-frame
+slice-aggregate-put-frame c = search needs
+
+put-frame-requires : tie.Need-put-frame-requires
+put-frame-requires c κs = search needs
+
+same-length : tie.Need-same-length
+same-length c = search needs
+
+returns-2 : tie.Need-returns-2
+returns-2 c = refusal-printed _ _ (c .before .before .before .before .before .if1 .left) _ (c .before .before .put-frame .ensures)
+
+pub print-refusal-spec : {M : Type 1} → statement M
+print-refusal-spec =
+    tie.close (tie.spec returns slice-aggregate-put-frame put-frame-requires same-length returns-2)

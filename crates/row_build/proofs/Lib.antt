@@ -1,0 +1,2 @@
+pub mod SameSteps
+pub mod RowsBuilt

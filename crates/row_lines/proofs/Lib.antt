@@ -1,0 +1,2 @@
+pub mod TextSize
+pub mod RowLines

@@ -1,0 +1,3 @@
+pub mod SampleCharts
+pub mod SampleBuilds
+pub mod SampleWalks
