@@ -1,2 +1,2 @@
-pub mod Printed
+pub mod ReadText
 pub mod Cut

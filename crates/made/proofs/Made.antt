@@ -15,7 +15,8 @@ use Rattle.pages.specs.Programs.{programRoom, programReverse, programLent, orRe
 use Rattle.promises.proofs.Answers.{forward-admits, forward-cases, backward-admits, backward-cases}
 use Rattle.promises.proofs.Forward.{nerode-faithful, reduced-faithful}
 use Rattle.promises.proofs.Backward.{brzozowski-faithful}
-use Rattle.made.specs.Made.{Sound, Made}
+use Rattle.shown.specs.Shown.{Sound}
+use Rattle.made.specs.Made.{Made}
 
 -- ---- Nerode and reduced
 

@@ -1,24 +1,10 @@
 -- What a builder leaves for a program to print.
 use mathlib.Core.Path.{_≡_}
-use mathlib.Core.Bool.{true}
 use mathlib.Core.List.{List}
-use Prim.Native.Nat.{ℕ, _≤_}
-use lib.ListN.{getD}
+use Prim.Native.Nat.{ℕ}
 use Rattle.paper.specs.Replies.{Reply}
-use Rattle.paper.specs.Chart.{letters}
-use Rattle.paper.specs.Check.{chartFits}
-use Rattle.paper.specs.Tables.{tableFitsChart}
-use Rattle.pages.specs.Programs.{programRoom, builtText}
-
--- a table that is not refused beside its chart and has no more states than the programs' room
-pub record Shown (c table : List ℕ) (count : ℕ) : Type 0 where
-  pub chart : chartFits c ≡ true
-  pub fits : tableFitsChart c table count (letters c) ≡ true
-  pub few : count ≤ programRoom
-
--- so is what a builder leaves that refuses nothing
-abbrev pub Sound : List ℕ → List ℕ → Reply → Type 0
-Sound c table r = r .0 ≡ 0 → Shown c table (getD (r .1) 0 0)
+use Rattle.pages.specs.Programs.{builtText}
+use Rattle.shown.specs.Shown.{Sound}
 
 -- a builder left a table and answered r: the program's text is that of the table or the refusal
 pub record Made (text c table : List ℕ) (r : Reply) : Type 0 where

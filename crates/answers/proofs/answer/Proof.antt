@@ -1,5 +1,5 @@
 -- `answers::answer` meets its contract. Assumes nothing.
-use Rattle.answers.proofs.Printed.{read-refused, read-made, answer-counted}
+use Rattle.answers.proofs.ReadText.{read-refused, read-made, answer-counted}
 use borrow.Author.Needs.{needs}
 use Rattle.answers.proofs.answer.Statement.{statement}
 use Rattle.answers.proofs.answer.Tie as tie

@@ -1,4 +1,4 @@
--- `answers::build_brz` meets its contract. Assumes nothing.
+-- `made::build_brz` meets its contract. Assumes nothing.
 use Rattle.made.proofs.Made.{brz-made, first-made}
 use borrow.Author.Needs.{needs}
 use Rattle.made.proofs.build_brz.Statement.{statement}

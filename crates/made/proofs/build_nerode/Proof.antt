@@ -1,4 +1,4 @@
--- `answers::build_nerode` meets its contract. Assumes nothing.
+-- `made::build_nerode` meets its contract. Assumes nothing.
 use Rattle.made.proofs.Made.{nerode-made}
 use borrow.Author.Needs.{needs}
 use Rattle.made.proofs.build_nerode.Statement.{statement}

@@ -1,4 +1,4 @@
--- `answers::build_reduced` meets its contract. Assumes nothing.
+-- `made::build_reduced` meets its contract. Assumes nothing.
 use Rattle.made.proofs.Made.{reduced-made}
 use borrow.Author.Needs.{needs}
 use Rattle.made.proofs.build_reduced.Statement.{statement}

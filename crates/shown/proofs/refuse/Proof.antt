@@ -1,8 +1,8 @@
 -- `answers::refuse` meets its contract. Assumes nothing.
-use Rattle.answers.proofs.Printed.{refusal-answered}
+use Rattle.shown.proofs.Printed.{refusal-answered}
 use borrow.Author.Needs.{needs}
-use Rattle.answers.proofs.refuse.Statement.{statement}
-use Rattle.answers.proofs.refuse.Tie as tie
+use Rattle.shown.proofs.refuse.Statement.{statement}
+use Rattle.shown.proofs.refuse.Tie as tie
 
 number-requires : tie.Need-number-requires
 number-requires c κs = search needs

@@ -1,9 +1,9 @@
 -- `answers::show` meets its contract. Assumes nothing.
-use Rattle.answers.proofs.Printed.{not-refused, table-answered}
+use Rattle.shown.proofs.Printed.{not-refused, table-answered}
 use Rattle.chart.proofs.Checked.{shaped}
 use borrow.Author.Needs.{needs}
-use Rattle.answers.proofs.show.Statement.{statement}
-use Rattle.answers.proofs.show.Tie as tie
+use Rattle.shown.proofs.show.Statement.{statement}
+use Rattle.shown.proofs.show.Tie as tie
 
 check-requires : tie.Need-check-requires
 check-requires c κs = search needs

@@ -1,11 +1,10 @@
 -- Texts printed into the answer's buffer: a refusal's line, a table's text, and which of them is due. Assumes nothing.
-use mathlib.Core.Path.{_≡_, refl, sym, ap, _∙_, subst}
+use mathlib.Core.Path.{_≡_, refl, ap}
 use mathlib.Core.List.{List, [], _∷_}
 use Prim.Native.Nat.{ℕ, _+_, _*_, _≤_}
 use native.Mathlib.Nat.{le-refl}
 use native.Mathlib.Omega.{arith}
 use lib.ListN.{length, getD, length-append}
-use lib.Seq.{length-take-le}
 use lib.Dec.{eqb}
 use borrow.Author.Tests.{le-leb}
 use Rattle.paper.specs.declared.Refusal.{Refusal}
@@ -16,21 +15,18 @@ use Rattle.paper.specs.Replies.{Reply, fine, said, checkedSaid, builtSaid, writ
 use Rattle.paper.specs.Chart.{letters}
 use Rattle.paper.specs.Check.{checkReply}
 use Rattle.paper.specs.Tables.{twoBytes, rowSize, tableFits, tableFitsChart}
-use Rattle.paper.specs.Builders.{blank}
 use Rattle.pages.specs.Frames.{lineLength}
-use Rattle.pages.specs.Texts.{Filled, chartMost, readChart, printed, refusalText, printRefusal, tableText, tableTextSize, printTable}
-use Rattle.pages.specs.Programs.{orRefusal, builtText, readText, program}
+use Rattle.pages.specs.Texts.{Filled, printed, refusalText, printRefusal, tableText, tableTextSize, printTable}
+use Rattle.pages.specs.Programs.{orRefusal, builtText}
 use Rattle.paper.proofs.Said.{said-refuses}
-use Rattle.io.specs.Counts.{Counts}
 use Rattle.lists.proofs.Bound.{product}
-use Rattle.lists.proofs.Lent.{length-inFront}
 use Rattle.lists.proofs.Tests.{not-both, both-left, both-right}
 use Rattle.frames.proofs.FrameWritten.{length-frame}
 use Rattle.rows.proofs.Rows.{size-parts}
 use Rattle.chart.proofs.Checked.{fits-refused}
 use Rattle.row_lines.proofs.RowLines.{length-rows}
-use Rattle.answers.specs.Answers.{Answered, SizeOf, answerMost}
-use Rattle.made.specs.Made.{Shown, Sound}
+use Rattle.shown.specs.Answered.{Answered, SizeOf, answerMost}
+use Rattle.shown.specs.Shown.{Shown, Sound}
 
 -- ---- the size
 
@@ -99,25 +95,3 @@ built-states c table count = refl
 
 pub sound-shown : {c table : List ℕ} {b : Built} {count : ℕ} → b ≡ Built.States count → Sound c table (builtSaid b) → Shown c table count
 sound-shown q h = rw q at h refl
-
--- ---- from what reading answered
-
-module _ (make : List ℕ → List ℕ) (text : List ℕ) (w : Written) {buffer old : List ℕ} (zero : old ≡ blank chartMost)
-    (e : _≡_ {A = Filled} (record { reply = writtenSaid w; buffer = buffer }) (readChart text old)) where
-  read-text : program make text ≡ orRefusal (writtenSaid w) (make buffer)
-  unfolding program readText
-  read-text = sym (ap (λ (f : Filled). orRefusal (f .reply) (make (f .buffer))) (rw zero at e))
-
-  pub read-refused : {why : Refusal} → w ≡ Written.Refused why → refusalText (said why .0) ≡ program make text
-  unfolding orRefusal
-  read-refused {why} q = sym (read-text ∙ rw (q, said-refuses why))
-
-  pub read-made : {n : ℕ} → w ≡ Written.Bytes n → make buffer ≡ program make text
-  unfolding orRefusal
-  read-made q = sym (read-text ∙ rw q)
-
--- the text due, and its bytes counted for a caller that writes them out
-pub answer-counted : {text due old new : List ℕ} {size : ℕ} → text ≡ due → Answered text old new size → Answered due old new size × Counts size new
-answer-counted {text} {due} {old} {new} {size} q a =
-    let low : size ≤ length new = omega (arith, a .size-is, a .room, ap length (a .front) ∙ length-inFront text old (a .room)) in
-    (subst (λ (t : List ℕ). Answered t old new size) q a, (low, sym (length-take-le size new low)))

@@ -1,8 +1,8 @@
 -- `answers::size_of` meets its contract. Assumes nothing.
-use Rattle.answers.proofs.Printed.{size-known, size-refused}
+use Rattle.shown.proofs.Printed.{size-known, size-refused}
 use borrow.Author.Needs.{needs}
-use Rattle.answers.proofs.size_of.Statement.{statement}
-use Rattle.answers.proofs.size_of.Tie as tie
+use Rattle.shown.proofs.size_of.Statement.{statement}
+use Rattle.shown.proofs.size_of.Tie as tie
 
 enum-known-written : tie.Need-enum-known-written
 enum-known-written c = search needs

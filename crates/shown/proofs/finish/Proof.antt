@@ -1,8 +1,8 @@
 -- `answers::finish` meets its contract. Assumes nothing.
-use Rattle.answers.proofs.Printed.{built-refused, built-states, sound-shown}
+use Rattle.shown.proofs.Printed.{built-refused, built-states, sound-shown}
 use borrow.Author.Needs.{needs}
-use Rattle.answers.proofs.finish.Statement.{statement}
-use Rattle.answers.proofs.finish.Tie as tie
+use Rattle.shown.proofs.finish.Statement.{statement}
+use Rattle.shown.proofs.finish.Tie as tie
 
 enum-known-built : tie.Need-enum-known-built
 enum-known-built c = search needs
