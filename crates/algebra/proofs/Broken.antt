@@ -11,7 +11,7 @@ use lib.Dec.{eqb}
 use borrow.Author.Tests.{eqb-false}
 use Rattle.paper.specs.Lists.{unless}
 use Rattle.paper.specs.Words.{LexBefore}
-use Rattle.paper.specs.Replies.{fine}
+use Rattle.paper.specs.Reply.{fine}
 use Rattle.paper.specs.Chart.{kOf}
 use Rattle.paper.specs.Check.{laws, lawAt, lawAtTwo, lawAtOne, lawHolds, brokenLaw, brokenA, brokenB, brokenC, brokenAt, shapeOf, checkReply}
 use Rattle.lists.proofs.Tests.{not-both, all-at, least}

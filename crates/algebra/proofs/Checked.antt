@@ -9,7 +9,7 @@ use lib.ListN.{length, getD}
 use lib.Dec.{eqb, leb, ltb}
 use borrow.Author.Tests.{eqb-true, eq-eqb, ltb-true, leb-true}
 use Rattle.paper.specs.Lists.{both, unless}
-use Rattle.paper.specs.Replies.{Reply, fine}
+use Rattle.paper.specs.Reply.{Reply, fine}
 use Rattle.paper.specs.Chart.{headSize, kOf, eOf, nOf, mOf, letters, joinFrom, prodFrom, startFrom, endFrom, matrixFrom, chartSize, join, prod, gradeFrom, entry}
 use Rattle.algebra.specs.Sizes.{Sizes}
 use Rattle.paper.specs.Check.{sizesFit, headFits, gradeFits, gradesFit, laws, lawAt, lawAtTwo, lawAtOne, lawHolds, brokenLaw, brokenAt, shapeOf, checkReply, chartFits}

@@ -9,7 +9,7 @@ use lib.Dec.{leb, ltb}
 use borrow.Author.Tests.{eq-eqb, lt-ltb, le-leb}
 use Rattle.paper.specs.Lists.{both, allBelow, joined}
 use Rattle.paper.specs.Words.{Word, after}
-use Rattle.paper.specs.Replies.{fine}
+use Rattle.paper.specs.Reply.{fine}
 use Rattle.paper.specs.Chart.{kOf, nOf, letters, startVec}
 use Rattle.paper.specs.Vectors.{vectorOf, endGrade, gradeOf}
 use Rattle.paper.specs.Tables.{twoBytes, gradeAt, stateOf, tableGrade}

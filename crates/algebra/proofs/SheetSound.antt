@@ -8,7 +8,7 @@ use lib.Dec.{eqb, leb}
 use borrow.Author.Tests.{eqb-true, leb-true, eq-eqb, not-true, not-false}
 use Rattle.paper.specs.Lists.{both, allBelow, leastFail, sameList}
 use Rattle.paper.specs.Words.{Word, after}
-use Rattle.paper.specs.Replies.{Reply}
+use Rattle.paper.specs.Reply.{Reply}
 use Rattle.paper.specs.Chart.{letters, startVec}
 use Rattle.paper.specs.Check.{chartFits}
 use Rattle.paper.specs.Vectors.{rowTimes, vectorOf, endGrade, gradeOf}

@@ -5,13 +5,13 @@ use Prim.Native.Nat.{ℕ, _≤_}
 use native.Mathlib.Omega.{arith}
 use lib.ListN.{length}
 use lib.Seq.{length-take-le}
-use Rattle.paper.specs.declared.Refusal.{Refusal}
-use Rattle.paper.specs.declared.Written.{Written}
-use Rattle.paper.specs.Replies.{said, writtenSaid}
+use Rattle.replies.specs.declared.Refusal.{Refusal}
+use Rattle.replies.specs.declared.Written.{Written}
+use Rattle.replies.specs.Replies.{said, writtenSaid}
 use Rattle.paper.specs.Builders.{blank}
 use Rattle.pages.specs.Texts.{Filled, chartMost, readChart, refusalText}
 use Rattle.pages.specs.Programs.{orRefusal, readText, program}
-use Rattle.paper.proofs.Said.{said-refuses}
+use Rattle.replies.proofs.Said.{said-refuses}
 use Rattle.io.specs.Counts.{Counts}
 use Rattle.lists.proofs.Lent.{length-inFront}
 use Rattle.shown.specs.Answered.{Answered}

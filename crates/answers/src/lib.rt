@@ -2,14 +2,14 @@
 use made::build_brz;
 use made::build_nerode;
 use made::build_reduced;
-use paper::Built;
-use paper::Written;
+use replies::Built;
+use replies::Written;
 use shown::finish;
 use shown::refuse;
 ghost use mathlib.Core.Path.{_≡_};
 ghost use Prim.Native.Nat.{_≤_};
 ghost use lib.ListN.{length};
-ghost use Rattle.paper.specs.Replies.{builtSaid};
+ghost use Rattle.replies.specs.Replies.{builtSaid};
 ghost use Rattle.paper.specs.Builders.{blank, blankTable};
 ghost use Rattle.pages.specs.Texts.{chartMost};
 ghost use Rattle.pages.specs.Programs.{programRoom, program, nerodeMakes, reducedMakes, brzMakes};

@@ -7,11 +7,12 @@ use lib.ListN.{length}
 use Rattle.paper.specs.Lists.{both}
 use Rattle.paper.specs.Chart.{letters}
 use Rattle.paper.specs.Check.{chartFits, checkReply}
-use Rattle.paper.specs.Replies.{Reply, said, checkedSaid}
+use Rattle.paper.specs.Reply.{Reply}
+use Rattle.replies.specs.Replies.{said, checkedSaid}
 use Rattle.paper.specs.Builders.{roomFits, stateMost, reverseMost, Lent, backwardRoom, brzozowski}
-use Rattle.paper.specs.declared.Shape.{Shape}
-use Rattle.paper.specs.declared.Refusal.{Refusal}
-use Rattle.paper.specs.declared.Checked.{Checked}
+use Rattle.replies.specs.declared.Shape.{Shape}
+use Rattle.replies.specs.declared.Refusal.{Refusal}
+use Rattle.replies.specs.declared.Checked.{Checked}
 use Rattle.cells.specs.Shaped.{Shaped}
 use Rattle.chart.proofs.Checked.{fits-refused}
 use Rattle.row_build.specs.Lent.{lent}

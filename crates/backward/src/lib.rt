@@ -1,13 +1,13 @@
 // The Brzozowski table of a chart: the reverse table first, then the rows over it.
 use chart::check;
-use paper::BuiltBoth;
-use paper::Checked;
-use paper::Refusal;
-use paper::Shape;
+use replies::BuiltBoth;
+use replies::Checked;
+use replies::Refusal;
+use replies::Shape;
 use rooms::room_fits;
 use row_build::build_rows;
 ghost use mathlib.Core.Path.{_≡_};
-ghost use Rattle.paper.specs.Replies.{bothSaid};
+ghost use Rattle.replies.specs.Replies.{bothSaid};
 ghost use Rattle.paper.specs.Builders.{brzozowski, stateMost, reverseMost, roomFits};
 ghost use Rattle.row_build.specs.Lent.{lent};
 ghost use mathlib.Core.Bool.{true};

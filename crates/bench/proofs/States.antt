@@ -2,12 +2,12 @@
 use mathlib.Core.Path.{_≡_}
 use Prim.Native.Nat.{ℕ}
 use Rattle.paper.specs.Tables.{stateAfter}
-use Rattle.paper.specs.Replies.{steppedSaid}
-use Rattle.paper.specs.declared.Refusal.{Refusal}
-use Rattle.paper.specs.declared.Refusal.the-variants.{Next}
-use Rattle.paper.specs.declared.Stepped.{Stepped}
-use Rattle.paper.proofs.Refusal as R
-use Rattle.paper.proofs.Said.{said-refuses}
+use Rattle.replies.specs.Replies.{steppedSaid}
+use Rattle.replies.specs.declared.Refusal.{Refusal}
+use Rattle.replies.specs.declared.Refusal.the-variants.{Next}
+use Rattle.replies.specs.declared.Stepped.{Stepped}
+use Rattle.replies.proofs.Refusal as R
+use Rattle.replies.proofs.Said.{said-refuses}
 
 module _ (s : ℕ) (answer : Stepped) where
   pub state-given : (next : ℕ) → answer ≡ Stepped.Next next → next ≡ stateAfter s (steppedSaid answer)

@@ -9,11 +9,12 @@ use lib.ListN.{length, getD, drop}
 use lib.Seq.{drop-cons, drop-length}
 use lib.Dec.{leb}
 use borrow.Author.Tests.{leb-true, ltb-true}
-use Rattle.paper.specs.Replies.{Reply, gradedSaid}
+use Rattle.paper.specs.Reply.{Reply}
+use Rattle.replies.specs.Replies.{gradedSaid}
 use Rattle.paper.specs.Words.{after, Word}
 use Rattle.paper.specs.Tables.{gradeAt, nextAt, gradeTop, rowFits, sizeFits, tableFits, letterFits, badLetter, nextBy, stateOf, tableGrade, stateAfter, readerTakes, readerState, gradeReply, wordReply}
-use Rattle.paper.specs.declared.Graded.{Graded}
-use Rattle.paper.proofs.Said.{graded-one}
+use Rattle.replies.specs.declared.Graded.{Graded}
+use Rattle.replies.proofs.Said.{graded-one}
 use Rattle.lists.proofs.Tests.{unless-passed, all-at, least-all}
 use Rattle.rows.proofs.Rows.{size-parts, step-next, grade-is}
 use Rattle.rows.proofs.TableTest.{table-parts}

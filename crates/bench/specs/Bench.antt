@@ -1,7 +1,7 @@
 -- The bench: what its reader answers and becomes.
 use Prim.Native.Nat.{ℕ}
 use denote.Ref.{now}
-use Rattle.paper.specs.Replies.{Reply}
+use Rattle.paper.specs.Reply.{Reply}
 use Rattle.paper.specs.Tables.{stepReply, gradeReply, readerTakes}
 use Rattle.bench.specs.declared.reader.Reader.{Reader}
 

@@ -1,8 +1,8 @@
 // The bench reader: a lent table and the present state. Its methods are thin, over `tables`.
-use paper::Graded;
-use paper::Stepped;
+use replies::Graded;
+use replies::Stepped;
 ghost use mathlib.Core.Path.{_≡_};
-ghost use Rattle.paper.specs.Replies.{steppedSaid, gradedSaid};
+ghost use Rattle.replies.specs.Replies.{steppedSaid, gradedSaid};
 ghost use Rattle.paper.specs.Tables.{stepReply, gradeReply, stateAfter, readerTakes, readerState};
 ghost use Rattle.bench.specs.Bench.{answerTo, gradeOf, taken};
 

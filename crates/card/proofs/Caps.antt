@@ -7,11 +7,12 @@ use native.Mathlib.Numerals.{add-one}
 use native.Mathlib.Omega.{arith}
 use lib.Dec.{eqb, ltb}
 use borrow.Author.Tests.{eq-eqb, ne-eqb, ltb-true}
-use Rattle.paper.specs.declared.Checked.{Checked}
-use Rattle.paper.specs.declared.Refusal.{Refusal}
-use Rattle.paper.specs.declared.Shape.{Shape}
+use Rattle.replies.specs.declared.Checked.{Checked}
+use Rattle.replies.specs.declared.Refusal.{Refusal}
+use Rattle.replies.specs.declared.Shape.{Shape}
 use Rattle.paper.specs.Lists.{both, allBelow}
-use Rattle.paper.specs.Replies.{Reply, said, checkedSaid}
+use Rattle.paper.specs.Reply.{Reply}
+use Rattle.replies.specs.Replies.{said, checkedSaid}
 use Rattle.paper.specs.Chart.{kOf, letters, join}
 use Rattle.paper.specs.Check.{checkReply}
 use Rattle.paper.specs.Vectors.{joins}

@@ -3,7 +3,7 @@ use mathlib.Core.Path.{_≡_}
 use mathlib.Core.Bool.{true}
 use mathlib.Core.List.{List}
 use Prim.Native.Nat.{ℕ}
-use Rattle.paper.specs.declared.Shape.{Shape}
+use Rattle.replies.specs.declared.Shape.{Shape}
 use Rattle.paper.specs.Tables.{tableFitsChart}
 use Rattle.cells.specs.Shaped.{Shaped}
 

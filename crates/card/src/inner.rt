@@ -1,6 +1,6 @@
 // Inner: a table beside a chart that was checked. Each has a `requires`, so only proved code may call them.
 use cells::join;
-use paper::Shape;
+use replies::Shape;
 use rows::grade_at;
 use rows::table_fits;
 ghost use mathlib.Core.Path.{_≡_};

@@ -4,11 +4,11 @@ pub mod inner;
 use crate::inner::cap_of;
 use crate::inner::table_fits_chart;
 use chart::check;
-use paper::Checked;
-use paper::Graded;
-use paper::Refusal;
+use replies::Checked;
+use replies::Graded;
+use replies::Refusal;
 ghost use mathlib.Core.Path.{_≡_};
-ghost use Rattle.paper.specs.Replies.{gradedSaid};
+ghost use Rattle.replies.specs.Replies.{gradedSaid};
 ghost use Rattle.paper.specs.Tables.{capReply};
 
 // The cap of a table.

@@ -5,8 +5,8 @@ ghost use lib.ListN.{length};
 ghost use Rattle.io.specs.Counts.{Counts};
 use libc::STDIN_FILENO;
 use libc::STDOUT_FILENO;
-use paper::Refusal;
-use paper::Verdict;
+use replies::Refusal;
+use replies::Verdict;
 
 fn wide(byte: u8) -> usize {
     byte as usize
@@ -84,7 +84,7 @@ fn print_values(why: Refusal) {
 }
 
 pub fn print_refusal(why: Refusal) {
-    io::print_decimal(STDOUT_FILENO, paper::number(why) as u64);
+    io::print_decimal(STDOUT_FILENO, replies::number(why) as u64);
     print_values(why);
 }
 

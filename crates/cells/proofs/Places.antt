@@ -6,7 +6,7 @@ use native.Mathlib.Nat.{le-mul-of-pos-right}
 use native.Mathlib.Omega.{arith}
 use lib.Arith.{digits-lt}
 use lib.ListN.{length, getD}
-use Rattle.paper.specs.declared.Shape.{Shape}
+use Rattle.replies.specs.declared.Shape.{Shape}
 use Rattle.paper.specs.Chart.{headSize, letters, join, prod, entry}
 use Rattle.cells.specs.Shaped.{Shaped, Read}
 

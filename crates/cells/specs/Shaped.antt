@@ -3,7 +3,7 @@ use mathlib.Core.Path.{_≡_}
 use mathlib.Core.List.{List}
 use Prim.Native.Nat.{ℕ, _≤_, _<_}
 use lib.ListN.{length, getD}
-use Rattle.paper.specs.declared.Shape.{Shape}
+use Rattle.replies.specs.declared.Shape.{Shape}
 use Rattle.algebra.specs.Sizes.{Sizes}
 use Rattle.paper.specs.Chart.{headSize, kOf, eOf, nOf, mOf, letters, joinFrom, prodFrom, startFrom, endFrom, matrixFrom, chartSize}
 

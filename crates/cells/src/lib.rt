@@ -4,7 +4,7 @@ ghost use Prim.Native.Nat.{_+_, _*_, _<_};
 ghost use lib.ListN.{length, getD};
 ghost use Rattle.paper.specs.Chart.{join, prod, entry};
 ghost use Rattle.cells.specs.Shaped.{Shaped, Read};
-use paper::Shape;
+use replies::Shape;
 
 // The byte at a row and a column of a part of the chart that is laid out in rows of one width.
 pub fn cell(chart: &[u8], from: usize, row: usize, width: usize, col: usize) -> u8

@@ -7,14 +7,15 @@ use native.Mathlib.Omega.{arith}
 use lib.ListN.{length, getD}
 use lib.Dec.{eqb, leb}
 use borrow.Author.Tests.{le-leb, lt-leb, leb-true, ltb-true, eq-eqb, ne-eqb}
-use Rattle.paper.specs.declared.Shape.{Shape}
-use Rattle.paper.specs.declared.Refusal.{Refusal}
-use Rattle.paper.specs.declared.Checked.{Checked}
+use Rattle.replies.specs.declared.Shape.{Shape}
+use Rattle.replies.specs.declared.Refusal.{Refusal}
+use Rattle.replies.specs.declared.Checked.{Checked}
 use Rattle.paper.specs.Lists.{unless}
-use Rattle.paper.specs.Replies.{Reply, fine, shapeSaid, checkedSaid}
+use Rattle.paper.specs.Reply.{Reply, fine}
+use Rattle.replies.specs.Replies.{shapeSaid, checkedSaid}
 use Rattle.paper.specs.Chart.{headSize, kOf, eOf, nOf, mOf, letters, chartSize}
 use Rattle.paper.specs.Check.{headFits, gradeFits, gradesFit, brokenLaw, brokenAt, shapeOf, checkReply, chartFits}
-use Rattle.paper.proofs.Said.{said-refuses}
+use Rattle.replies.proofs.Said.{said-refuses}
 use Rattle.lists.proofs.Tests.{all-at, unless-passed}
 use Rattle.laws.specs.declared.Broken.{Broken}
 use Rattle.laws.specs.Laws.{FirstBroken}

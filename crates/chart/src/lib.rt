@@ -1,7 +1,7 @@
 // The chart check.
 ghost use mathlib.Core.Path.{_≡_};
 ghost use Rattle.paper.specs.Check.{checkReply};
-ghost use Rattle.paper.specs.Replies.{checkedSaid};
+ghost use Rattle.replies.specs.Replies.{checkedSaid};
 
 pub mod sizes;
 
@@ -11,8 +11,8 @@ use crate::sizes::laid_out;
 use crate::sizes::sizes_fit;
 use laws::Broken;
 use laws::first_broken;
-use paper::Checked;
-use paper::Refusal;
+use replies::Checked;
+use replies::Refusal;
 
 // Whether any bytes are a chart: its shape, or why it is refused.
 pub fn check(chart: &[u8]) -> Checked

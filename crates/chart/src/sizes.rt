@@ -5,9 +5,9 @@ ghost use Prim.Native.Nat.{_≤_};
 ghost use lib.ListN.{length};
 ghost use Rattle.paper.specs.Chart.{kOf, chartSize};
 ghost use Rattle.paper.specs.Check.{sizesFit, gradesFit, shapeOf};
-ghost use Rattle.paper.specs.Replies.{shapeSaid};
+ghost use Rattle.replies.specs.Replies.{shapeSaid};
 ghost use Rattle.algebra.specs.Sizes.{Sizes};
-use paper::Shape;
+use replies::Shape;
 
 // Bytes before the tables: k, e, n, m.
 pub(crate) const HEAD: usize = 4;

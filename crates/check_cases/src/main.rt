@@ -1,6 +1,6 @@
 // Checks the charts on standard input, stored as `cases` says, and prints a line for each: the answer's number and values.
-use paper::Checked;
-use paper::Shape;
+use replies::Checked;
+use replies::Shape;
 
 fn print_shape(shape: Shape) {
     cases::print_success();

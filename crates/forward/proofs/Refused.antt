@@ -3,11 +3,12 @@ use mathlib.Core.Path.{_≡_, sym, ap, _∙_}
 use mathlib.Core.List.{List}
 use Prim.Native.Nat.{ℕ}
 use Rattle.paper.specs.Check.{checkReply}
-use Rattle.paper.specs.Replies.{Reply, said, checkedSaid}
+use Rattle.paper.specs.Reply.{Reply}
+use Rattle.replies.specs.Replies.{said, checkedSaid}
 use Rattle.paper.specs.Constructions.{Construction}
 use Rattle.paper.specs.Builders.{forward}
-use Rattle.paper.specs.declared.Refusal.{Refusal}
-use Rattle.paper.specs.declared.Checked.{Checked}
+use Rattle.replies.specs.declared.Refusal.{Refusal}
+use Rattle.replies.specs.declared.Checked.{Checked}
 use Rattle.chart.proofs.Checked.{fits-refused}
 
 pub build-refused : (c : List ℕ) (b : Construction) (room : ℕ) (table vectors : List ℕ) {r : Checked} {why : Refusal} → checkedSaid r ≡ checkReply c → r ≡ Checked.Refused why →

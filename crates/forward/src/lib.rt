@@ -1,11 +1,11 @@
 // The Nerode and the reduced Nerode table of a chart: the calls whose states are vectors.
 use chart::check;
 use kinds::Kind;
-use paper::Built;
-use paper::Checked;
+use replies::Built;
+use replies::Checked;
 use vector_build::build;
 ghost use mathlib.Core.Path.{_≡_};
-ghost use Rattle.paper.specs.Replies.{builtSaid};
+ghost use Rattle.replies.specs.Replies.{builtSaid};
 ghost use Rattle.paper.specs.Builders.{nerode, reduced};
 
 // The Nerode table. `room` is the most states that it may have.

@@ -9,7 +9,7 @@ use lib.Seq.{getD-set-same, getD-set-other}
 use lib.Dec.{eqb}
 use borrow.Author.Tests.{eqb-true, eq-eqb}
 use borrow.Author.Count.{below-more, below-none}
-use Rattle.paper.specs.declared.Shape.{Shape}
+use Rattle.replies.specs.declared.Shape.{Shape}
 use Rattle.paper.specs.Lists.{both, sameList}
 use Rattle.paper.specs.Sheets.{lineSize, lineAt, lineState, lineVector, otherPair, onSheet}
 use Rattle.lists.proofs.Tests.{all-by, all-fails, both-split, both-true}

@@ -5,7 +5,7 @@ use marks::chains::earlier;
 use marks::chains::last_with;
 use marks::mark;
 use marks::same;
-use paper::Shape;
+use replies::Shape;
 ghost use mathlib.Core.Path.{_≡_};
 ghost use Prim.Native.Nat.{_+_, _≤_, _<_};
 ghost use lib.ListN.{length, getD};

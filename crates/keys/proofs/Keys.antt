@@ -14,7 +14,7 @@ use Rattle.paper.specs.Lists.{joined, part, inFront, sameList, allBelow}
 use Rattle.paper.specs.Chart.{nOf, letters}
 use Rattle.paper.specs.Vectors.{rowTimes, endGrade}
 use Rattle.paper.specs.Constructions.{letterKey, reducedKey}
-use Rattle.paper.specs.declared.Shape.{Shape}
+use Rattle.replies.specs.declared.Shape.{Shape}
 use Rattle.lists.proofs.Tests.{not-both, all-at, all-by}
 use Rattle.lists.proofs.ByPlace.{joined-cong, length-joined, getD-joined, same-true, same-by, same-not, length-part, getD-part}
 use Rattle.lists.proofs.Lent.{inFront-next}

@@ -2,7 +2,7 @@
 use kinds::Plan;
 use kinds::keyed;
 use marks::same;
-use paper::Shape;
+use replies::Shape;
 use vectors::times::end_grade;
 use vectors::times::row_times;
 ghost use mathlib.Core.Path.{_≡_};

@@ -12,7 +12,7 @@ use Rattle.paper.specs.Chart.{headSize, kOf, nOf, letters, gradeFrom, startVec,
 use Rattle.paper.specs.Vectors.{rowTimes}
 use Rattle.paper.specs.Tables.{rowSize, gradeAt, nextAt}
 use Rattle.paper.specs.Check.{chartFits}
-use Rattle.paper.specs.declared.Shape.{Shape}
+use Rattle.replies.specs.declared.Shape.{Shape}
 use Rattle.lists.proofs.ByPlace.{length-tabulate, getD-tabulate}
 use Rattle.algebra.proofs.Checked.{sound}
 use Rattle.algebra.proofs.Vectors.{length-row, length-col, length-start, length-end, start-grades, end-grades, row-grades, col-grades}

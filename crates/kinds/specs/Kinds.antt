@@ -9,7 +9,7 @@ use Rattle.paper.specs.Vectors.{rowTimes, timesCol, endGrade, startGrade}
 use Rattle.paper.specs.Numbering.{itself}
 use Rattle.paper.specs.Tables.{gradeAt, nextAt}
 use Rattle.paper.specs.Constructions.{Construction, reducedKey, rowGrade}
-use Rattle.paper.specs.declared.Shape.{Shape}
+use Rattle.replies.specs.declared.Shape.{Shape}
 use Rattle.kinds.specs.declared.Kind.{Kind}
 use Rattle.kinds.specs.declared.Kind.the-variants.{Nerode, Reduced, Reverse, Rows}
 use Rattle.kinds.specs.declared.Plan.{Plan}

@@ -6,7 +6,7 @@ use Prim.Native.Nat.{ℕ, _*_, _≤_, _<_}
 use lib.ListN.{length, getD}
 use Rattle.paper.specs.Check.{chartFits}
 use Rattle.paper.specs.Tables.{rowSize, gradeAt, nextAt}
-use Rattle.paper.specs.declared.Shape.{Shape}
+use Rattle.replies.specs.declared.Shape.{Shape}
 use Rattle.cells.specs.Shaped.{Shaped}
 use Rattle.kinds.specs.declared.Kind.{Kind}
 use Rattle.kinds.specs.declared.Kind.the-variants.{Nerode, Reduced, Reverse, Rows}

@@ -1,5 +1,5 @@
 // The four constructions, and what sets them apart: the first value, a letter's step and the grade. Most have a `requires`, so only proved code may call them.
-use paper::Shape;
+use replies::Shape;
 use vectors::times::end_grade;
 use vectors::times::put_grades;
 use vectors::times::row_times;

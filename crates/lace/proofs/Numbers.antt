@@ -5,13 +5,13 @@ use Prim.Native.Nat.{ℕ}
 use types.Run.{OneOf, miss}
 use denote.Enum.Declared.{tagOf}
 use Rattle.paper.specs.Tables.{gradeCode, stepCode}
-use Rattle.paper.specs.Replies.{said, steppedSaid, gradedSaid}
-use Rattle.paper.specs.declared.Refusal.{Refusal}
-use Rattle.paper.specs.declared.Refusal.the-variants.{Sizes, Short, Grade, Law, Room, Reverse, States, Letter, Table, Sheet, Start, Line, Next, Text}
-use Rattle.paper.specs.declared.Stepped.{Stepped}
-use Rattle.paper.specs.declared.Graded.{Graded}
-use Rattle.paper.proofs.Refusal as R
-use Rattle.paper.proofs.Said.{said-refuses}
+use Rattle.replies.specs.Replies.{said, steppedSaid, gradedSaid}
+use Rattle.replies.specs.declared.Refusal.{Refusal}
+use Rattle.replies.specs.declared.Refusal.the-variants.{Sizes, Short, Grade, Law, Room, Reverse, States, Letter, Table, Sheet, Start, Line, Next, Text}
+use Rattle.replies.specs.declared.Stepped.{Stepped}
+use Rattle.replies.specs.declared.Graded.{Graded}
+use Rattle.replies.proofs.Refusal as R
+use Rattle.replies.proofs.Said.{said-refuses}
 
 -- ---- a grade's number
 

@@ -7,7 +7,7 @@ use native.Mathlib.Omega.{arith}
 use lib.Dec.{eqb, ltb}
 use borrow.Author.Tests.{ltb-true, ne-eqb}
 use Rattle.paper.specs.Lists.{unless}
-use Rattle.paper.specs.Replies.{Reply}
+use Rattle.paper.specs.Reply.{Reply}
 use Rattle.paper.specs.Tables.{gradeAt, nextAt, gradeTop, rowFits, sizeFits, stepReply, gradeReply, stepCode, gradeCode}
 use Rattle.rows.proofs.Rows.{size-parts}
 use Rattle.rows.proofs.Rows.{row-grade, row-next}

@@ -3,7 +3,7 @@ use mathlib.Core.List.{[], _∷_}
 use Prim.Native.Nat.{ℕ}
 use lib.Dec.{eqb}
 use Rattle.paper.specs.Lists.{pick}
-use Rattle.paper.specs.Replies.{Reply, fine}
+use Rattle.paper.specs.Reply.{Reply, fine}
 
 -- 65,535 says refusal 9, 65,534 refusal 8, any other number is the next state
 unfoldable pub stepTold : ℕ → Reply

@@ -1,9 +1,9 @@
 // The calls that C makes; include/lace.h declares them. A refusal is a reserved number.
-use paper::Graded;
-use paper::Refusal;
-use paper::Stepped;
+use replies::Graded;
+use replies::Refusal;
+use replies::Stepped;
 ghost use mathlib.Core.Path.{_≡_};
-ghost use Rattle.paper.specs.Replies.{steppedSaid, gradedSaid};
+ghost use Rattle.replies.specs.Replies.{steppedSaid, gradedSaid};
 ghost use Rattle.paper.specs.Tables.{stepReply, gradeReply, stepCode, gradeCode};
 
 // A step's answer as one number: the next state, 65,534 for refusal 8, 65,535 for refusal 9.

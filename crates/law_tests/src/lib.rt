@@ -1,7 +1,7 @@
 // Whether one law holds of some grades. Each has a `requires`, so only proved code may call them.
 use cells::join;
 use cells::prod;
-use paper::Shape;
+use replies::Shape;
 ghost use mathlib.Core.Path.{_≡_};
 ghost use Prim.Native.Nat.{_<_};
 ghost use Rattle.paper.specs.Check.{lawAt};

@@ -1,6 +1,6 @@
 // The first law that is broken, and its first grades. Each has a `requires`, so only proved code may call them.
 use law_tests::law_at;
-use paper::Shape;
+use replies::Shape;
 ghost use mathlib.Core.Path.{_≡_};
 ghost use mathlib.Core.List.{List};
 ghost use Prim.Native.Nat.{ℕ, _<_};

@@ -7,7 +7,7 @@ use native.Mathlib.Omega.{arith}
 use lib.ListN.{length, getD, take, drop, set, length-set, drop-of-length-le}
 use lib.Seq.{take-at, take-all, getD-drop, ext-getD}
 use borrow.Rule.Slice.PartMut.{putMid, same-len-mid}
-use Rattle.paper.specs.declared.Shape.{Shape}
+use Rattle.replies.specs.declared.Shape.{Shape}
 use Rattle.paper.specs.Lists.{inFront}
 use Rattle.paper.specs.Tables.{twoBytes}
 use Rattle.paper.specs.Sheets.{lineAt, lineState, lineVector, onSheet}

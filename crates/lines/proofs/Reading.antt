@@ -8,7 +8,7 @@ use native.Mathlib.Omega.{arith}
 use lib.ListN.{length, getD, take, drop, length-take, length-drop}
 use lib.Seq.{getD-take, getD-drop, ext-getD}
 use borrow.Author.Tests.{le-ltb, lt-ltb, le-leb, lt-leb}
-use Rattle.paper.specs.declared.Shape.{Shape}
+use Rattle.replies.specs.declared.Shape.{Shape}
 use Rattle.paper.specs.Lists.{both, allBelow, part}
 use Rattle.paper.specs.Chart.{kOf, nOf}
 use Rattle.paper.specs.Sheets.{lineAt, lineState, lineVector, lineGradeFits, lineFits, sheetFits}

@@ -4,9 +4,9 @@ use mathlib.Core.List.{List, [], _++_}
 use Prim.Native.Nat.{ℕ, _+_, _*_, _≤_, _<_}
 use lib.ListN.{length, getD, drop}
 use lib.Dec.{leb}
-use Rattle.paper.specs.declared.Shape.{Shape}
+use Rattle.replies.specs.declared.Shape.{Shape}
 use Rattle.paper.specs.Lists.{unless}
-use Rattle.paper.specs.Replies.{Reply, fine}
+use Rattle.paper.specs.Reply.{Reply, fine}
 use Rattle.paper.specs.Chart.{letters, startVec}
 use Rattle.paper.specs.Vectors.{rowTimes}
 use Rattle.paper.specs.Tables.{twoBytes, nextAt}

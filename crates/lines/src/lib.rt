@@ -1,5 +1,5 @@
 // Inner: reading a sheet's lines, and whether they fit. Some have a `requires`, so only proved code may call them.
-use paper::Shape;
+use replies::Shape;
 ghost use mathlib.Core.Path.{_≡_};
 ghost use Prim.Native.Nat.{_<_};
 ghost use Rattle.paper.specs.Sheets.{lineAt, lineState, lineVector, lineFits, sheetFits};

@@ -6,7 +6,7 @@ use mathlib.Core.List.{List, [], _∷_}
 use Prim.Native.Nat.{ℕ}
 use native.Mathlib.Omega.{arith}
 use lib.ListN.{getD}
-use Rattle.paper.specs.Replies.{Reply, fine}
+use Rattle.paper.specs.Reply.{Reply, fine}
 use Rattle.paper.specs.Chart.{letters}
 use Rattle.paper.specs.Tables.{tableFitsChart}
 use Rattle.paper.specs.Constructions.{Construction, nerodeBy, reducedBy}

@@ -1,8 +1,8 @@
 // The table that each program prints, built with the programs' rooms in memory of zeros.
-use paper::Built;
-use paper::BuiltBoth;
+use replies::Built;
+use replies::BuiltBoth;
 ghost use mathlib.Core.Path.{_≡_};
-ghost use Rattle.paper.specs.Replies.{builtSaid};
+ghost use Rattle.replies.specs.Replies.{builtSaid};
 ghost use Rattle.paper.specs.Builders.{blankTable, blankVectors};
 ghost use Rattle.pages.specs.Programs.{programRoom, programReverse, programLent, nerodeMakes, reducedMakes, brzMakes};
 ghost use Rattle.made.specs.Made.{Made};

@@ -6,7 +6,7 @@ use Prim.Native.Nat.{ℕ, _+_, _<_}
 use native.Mathlib.Omega.{arith}
 use lib.Dec.{eqb}
 use lib.ListN.{length, take}
-use Rattle.paper.specs.declared.Shape.{Shape}
+use Rattle.replies.specs.declared.Shape.{Shape}
 use Rattle.paper.specs.Lists.{tabulate, inFront}
 use Rattle.paper.specs.Chart.{nOf, letters, startFrom, gradeFrom, startVec}
 use Rattle.paper.specs.Vectors.{rowEntry, rowTimes, endGrade}

@@ -2,7 +2,7 @@
 use index::on_sheet;
 use lines::line_state;
 use lines::line_vector;
-use paper::Shape;
+use replies::Shape;
 use rows::grade_at;
 use rows::next_at;
 use vectors::times::end_grade;

@@ -4,7 +4,7 @@ use Prim.Native.Nat.{ℕ, suc, _*_}
 use lib.ListN.{getD}
 use lib.Dec.{eqb}
 use Rattle.paper.specs.Lists.{unless}
-use Rattle.paper.specs.Replies.{Reply}
+use Rattle.paper.specs.Reply.{Reply}
 use Rattle.paper.specs.Chart.{letters}
 use Rattle.paper.specs.Builders.{Forward, Lent, Backward, nerode, reduced, brzozowski, blank, blankTable, blankVectors}
 use Rattle.pages.specs.Texts.{Filled, chartMost, readChart, tableText, refusalText}

@@ -4,7 +4,7 @@ use Prim.Native.Nat.{ℕ, zero, suc, _+_, _*_}
 use lib.ListN.{length, replicate}
 use lib.Dec.{leb}
 use Rattle.paper.specs.Lists.{pick, unless, joined, part, inFront, zeros}
-use Rattle.paper.specs.Replies.{Reply, fine}
+use Rattle.paper.specs.Reply.{Reply, fine}
 use Rattle.paper.specs.Chart.{headSize, kOf, nOf, mOf, chartSize}
 use Rattle.paper.specs.Check.{headFits, checkReply, chartFits}
 use Rattle.paper.specs.Tables.{twoBytes, rowSize, tableFitsChart, capOf}

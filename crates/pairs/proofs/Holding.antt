@@ -6,7 +6,7 @@ use Prim.Native.Nat.{ℕ, _<_}
 use native.Mathlib.Omega.{arith}
 use lib.Dec.{leb}
 use borrow.Author.Tests.{leb-true, leb-false}
-use Rattle.paper.specs.declared.Shape.{Shape}
+use Rattle.replies.specs.declared.Shape.{Shape}
 use Rattle.paper.specs.Lists.{both, allBelow, leastFail}
 use Rattle.paper.specs.Chart.{letters}
 use Rattle.paper.specs.Sheets.{gradeHolds, nextHolds, lineHolds, badLine}

@@ -1,7 +1,7 @@
 // Inner: what must hold of each line of a sheet that fits. Each has a `requires`, so only proved code may call them.
 use next_pairs::grade_holds;
 use next_pairs::next_holds;
-use paper::Shape;
+use replies::Shape;
 ghost use mathlib.Core.Path.{_≡_};
 ghost use Prim.Native.Nat.{_<_};
 ghost use Rattle.paper.specs.Lists.{leastFail};

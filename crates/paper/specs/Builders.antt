@@ -5,7 +5,7 @@ use Prim.Native.Nat.{ℕ, suc, _-_, _*_}
 use lib.ListN.{length, getD, drop, replicate}
 use lib.Dec.{leb, ltb}
 use Rattle.paper.specs.Lists.{both, pick, unless, joined, part, inFront, zeros}
-use Rattle.paper.specs.Replies.{Reply, fine}
+use Rattle.paper.specs.Reply.{Reply, fine}
 use Rattle.paper.specs.Chart.{nOf, letters}
 use Rattle.paper.specs.Check.{checkReply, chartFits}
 use Rattle.paper.specs.Tables.{rowSize}

@@ -5,7 +5,7 @@ use Prim.Native.Nat.{ℕ, suc, _+_, _-_}
 use lib.ListN.{length, getD}
 use lib.Dec.{eqb, leb, ltb}
 use Rattle.paper.specs.Lists.{both, unless, allBelow, leastFail}
-use Rattle.paper.specs.Replies.{Reply, fine}
+use Rattle.paper.specs.Reply.{Reply, fine}
 use Rattle.paper.specs.Chart.{headSize, kOf, eOf, nOf, mOf, letters, joinFrom, prodFrom, startFrom, endFrom, matrixFrom, chartSize, join, prod}
 
 -- ---- ranges

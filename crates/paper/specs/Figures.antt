@@ -2,7 +2,7 @@
 use mathlib.Core.List.{List, [], _∷_, map}
 use Prim.Native.Nat.{ℕ, suc, _*_}
 use lib.ListN.{getD, take, set}
-use Rattle.paper.specs.Replies.{Reply}
+use Rattle.paper.specs.Reply.{Reply}
 use Rattle.paper.specs.Chart.{startVec}
 use Rattle.paper.specs.Check.{checkReply}
 use Rattle.paper.specs.Vectors.{rowTimes, gradeOf}

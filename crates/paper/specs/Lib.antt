@@ -1,5 +1,5 @@
 pub mod Lists
-pub mod Replies
+pub mod Reply
 pub mod Words
 pub mod Chart
 pub mod Check

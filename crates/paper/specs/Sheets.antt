@@ -5,7 +5,7 @@ use Prim.Native.Nat.{ℕ, _+_, _*_}
 use lib.ListN.{length, getD, drop}
 use lib.Dec.{eqb, leb, ltb}
 use Rattle.paper.specs.Lists.{both, unless, allBelow, leastFail, part, sameList}
-use Rattle.paper.specs.Replies.{Reply, fine}
+use Rattle.paper.specs.Reply.{Reply, fine}
 use Rattle.paper.specs.Chart.{kOf, nOf, letters, startVec}
 use Rattle.paper.specs.Check.{checkReply, chartFits}
 use Rattle.paper.specs.Vectors.{rowTimes, endGrade}

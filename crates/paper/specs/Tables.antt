@@ -6,7 +6,7 @@ use lib.ListN.{length, getD}
 use lib.Dec.{eqb, leb, ltb}
 use Rattle.paper.specs.Lists.{both, pick, unless, allBelow, leastFail}
 use Rattle.paper.specs.Words.{after}
-use Rattle.paper.specs.Replies.{Reply, fine}
+use Rattle.paper.specs.Reply.{Reply, fine}
 use Rattle.paper.specs.Chart.{kOf, letters}
 use Rattle.paper.specs.Check.{checkReply, chartFits}
 use Rattle.paper.specs.Vectors.{joins}

@@ -8,11 +8,11 @@ use lib.Dec.{leb}
 use lib.ListN.{length, length-append, length-take, length-drop}
 use borrow.Author.Tests.{leb-true}
 use borrow.Rule.Slice.PartMut.{midOf, putMid}
-use Rattle.paper.specs.declared.Checked.{Checked}
-use Rattle.paper.specs.declared.Refusal.{Refusal}
-use Rattle.paper.specs.declared.Shape.{Shape}
+use Rattle.replies.specs.declared.Checked.{Checked}
+use Rattle.replies.specs.declared.Refusal.{Refusal}
+use Rattle.replies.specs.declared.Shape.{Shape}
 use Rattle.paper.specs.Lists.{joined, inFront}
-use Rattle.paper.specs.Replies.{said, checkedSaid}
+use Rattle.replies.specs.Replies.{said, checkedSaid}
 use Rattle.paper.specs.Check.{checkReply}
 use Rattle.paper.specs.Tables.{twoBytes, rowSize, tableFitsChart, capOf}
 use Rattle.pages.specs.Frames.{frame, lineLength}

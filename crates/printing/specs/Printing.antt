@@ -5,7 +5,7 @@ use Prim.Native.Nat.{ℕ, _≤_}
 use lib.ListN.{length}
 use Rattle.paper.specs.Lists.{inFront}
 use Rattle.pages.specs.Texts.{tableTextSize}
-use Rattle.paper.specs.declared.Shape.{Shape}
+use Rattle.replies.specs.declared.Shape.{Shape}
 use Rattle.card.specs.Capped.{Beside}
 
 -- a table that is not refused beside its chart, and a buffer that has room for its text

@@ -10,7 +10,7 @@ use lib.ListN.{length}
 use lib.Dec.{eqb, leb}
 use borrow.Author.Tests.{leb-true, lt-ltb, le-ltb}
 use Rattle.paper.specs.Lists.{both, unless, inFront, zeros}
-use Rattle.paper.specs.Replies.{Reply, fine}
+use Rattle.paper.specs.Reply.{Reply, fine}
 use Rattle.paper.specs.Chart.{nOf, letters}
 use Rattle.paper.specs.Check.{brokenLaw, checkReply, chartFits}
 use Rattle.paper.specs.Tables.{rowSize}

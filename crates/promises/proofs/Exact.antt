@@ -5,7 +5,7 @@ use mathlib.Core.List.{List, []}
 use Prim.Native.Nat.{ℕ, _<_}
 use native.Mathlib.Omega.{arith}
 use lib.ListN.{length}
-use Rattle.paper.specs.Replies.{Reply}
+use Rattle.paper.specs.Reply.{Reply}
 use Rattle.paper.specs.Chart.{letters}
 use Rattle.paper.specs.Constructions.{Construction, statesOf, nerodeBy, reducedBy, reverseBy, reverseStates, rowsBy, rowStates}
 use Rattle.paper.specs.Builders.{Forward, forward, nerode, reduced, Lent, Backward, brzozowski}

@@ -2,15 +2,16 @@
 use mathlib.Core.Path.{_≡_, sym, ap, _∙_, subst}
 use mathlib.Core.List.{List}
 use Prim.Native.Nat.{ℕ, _≤_}
-use Rattle.paper.specs.Replies.{Reply, verdictSaid}
-use Rattle.paper.specs.declared.Verdict.{Verdict}
+use Rattle.paper.specs.Reply.{Reply}
+use Rattle.replies.specs.Replies.{verdictSaid}
+use Rattle.replies.specs.declared.Verdict.{Verdict}
 use Rattle.paper.specs.Chart.{letters}
 use Rattle.paper.specs.Builders.{Forward, Backward, nerode, reduced}
 use Rattle.paper.specs.Constructions.{Construction, nerodeBy, reducedBy}
 use Rattle.promises.specs.Faithful.{answered, SameVector, SameAfterLetters}
 use Rattle.promises.specs.Demands.{Builder, ForwardFaithful}
 use Rattle.promises.specs.Left.{GradesAll, ForwardLeaves, BrzozowskiLeaves, AcceptsTrue, AcceptsHonest, AcceptsNoFalse}
-use Rattle.paper.proofs.Said.{verdict-one}
+use Rattle.replies.proofs.Said.{verdict-one}
 use Rattle.algebra.proofs.SheetSound.{accepted}
 use Rattle.algebra.proofs.Tables.{chart-letters}
 use Rattle.promises.proofs.Forward.{nerode-faithful, reduced-faithful}

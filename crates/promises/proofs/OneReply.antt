@@ -2,13 +2,14 @@
 use mathlib.Core.Path.{_≡_, sym, ap, _∙_}
 use mathlib.Core.List.{List}
 use Prim.Native.Nat.{ℕ}
-use Rattle.paper.specs.Replies.{Reply, checkedSaid, verdictSaid, steppedSaid, gradedSaid}
+use Rattle.paper.specs.Reply.{Reply}
+use Rattle.replies.specs.Replies.{checkedSaid, verdictSaid, steppedSaid, gradedSaid}
 use Rattle.paper.specs.Check.{checkReply}
 use Rattle.paper.specs.Tables.{tableReply, stepReply, gradeReply, wordReply, capReply, stateAfter, stepCode, gradeCode}
 use Rattle.paper.specs.Builders.{vectorAt, Forward, nerode, reduced, Lent, Backward, brzozowski}
 use Rattle.paper.specs.Sheets.{sheetReply}
 use Rattle.pages.specs.Texts.{Filled, readChart, printTable, printRefusal}
-use Rattle.paper.proofs.Said.{checked-one, verdict-one, built-one, both-one, stepped-one, graded-one, written-one}
+use Rattle.replies.proofs.Said.{checked-one, verdict-one, built-one, both-one, stepped-one, graded-one, written-one}
 use Rattle.promises.specs.OneReply.{OneReply, forwardSays, backwardSays, filledSays, readerSays, itSays}
 
 -- ---- for any call whose answers say different things

@@ -8,7 +8,7 @@ use lib.ListN.{length, getD}
 use borrow.Author.Tests.{lt-ltb, le-leb}
 use Rattle.paper.specs.Lists.{joined}
 use Rattle.paper.specs.Words.{Word}
-use Rattle.paper.specs.Replies.{fine}
+use Rattle.paper.specs.Reply.{fine}
 use Rattle.paper.specs.Chart.{kOf, letters}
 use Rattle.paper.specs.Check.{chartFits}
 use Rattle.paper.specs.Vectors.{vectorOf, gradeOf}

@@ -8,7 +8,7 @@ use Prim.Native.Nat.{ℕ, suc, _≤_, _<_}
 use lib.ListN.{getD}
 use Rattle.paper.specs.Lists.{joined}
 use Rattle.paper.specs.Words.{Word}
-use Rattle.paper.specs.Replies.{fine}
+use Rattle.paper.specs.Reply.{fine}
 use Rattle.paper.specs.Chart.{letters}
 use Rattle.paper.specs.Check.{chartFits}
 use Rattle.paper.specs.Vectors.{combine, vectorOf, gradeOf, reverseOf}

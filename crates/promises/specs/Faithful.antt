@@ -8,7 +8,7 @@ use Prim.Native.Nat.{ℕ, _<_}
 use lib.ListN.{getD, take}
 use Rattle.paper.specs.Lists.{tabulate, part}
 use Rattle.paper.specs.Words.{Word, UpTo}
-use Rattle.paper.specs.Replies.{Reply}
+use Rattle.paper.specs.Reply.{Reply}
 use Rattle.paper.specs.Chart.{nOf, letters}
 use Rattle.paper.specs.Vectors.{rowTimes, vectorOf, gradeOf, reverseOf}
 use Rattle.paper.specs.Tables.{gradeAt, nextAt, tableFitsChart, stateOf, tableGrade}

@@ -4,15 +4,15 @@ use mathlib.Core.Bool.{true}
 use mathlib.Core.List.{List}
 use Prim.Native.Nat.{ℕ, _≤_}
 use Rattle.paper.specs.Words.{Word}
-use Rattle.paper.specs.Replies.{verdictSaid}
+use Rattle.replies.specs.Replies.{verdictSaid}
 use Rattle.paper.specs.Chart.{letters}
 use Rattle.paper.specs.Vectors.{gradeOf}
 use Rattle.paper.specs.Tables.{tableFits, tableGrade}
 use Rattle.paper.specs.Builders.{Lent, brzozowski}
 use Rattle.paper.specs.Sheets.{sheetReply}
-use Rattle.paper.specs.declared.Verdict.{Verdict}
-use Rattle.paper.specs.declared.Built.{Built}
-use Rattle.paper.specs.declared.BuiltBoth.{BuiltBoth}
+use Rattle.replies.specs.declared.Verdict.{Verdict}
+use Rattle.replies.specs.declared.Built.{Built}
+use Rattle.replies.specs.declared.BuiltBoth.{BuiltBoth}
 use Rattle.algebra.specs.Honest.{Right, Honest}
 use Rattle.promises.specs.Faithful.{EveryWord}
 use Rattle.promises.specs.Demands.{Builder}

@@ -2,13 +2,14 @@
 use mathlib.Core.Path.{_≡_}
 use mathlib.Core.List.{List}
 use Prim.Native.Nat.{ℕ}
-use Rattle.paper.specs.Replies.{Reply, builtSaid, bothSaid, steppedSaid, writtenSaid}
+use Rattle.paper.specs.Reply.{Reply}
+use Rattle.replies.specs.Replies.{builtSaid, bothSaid, steppedSaid, writtenSaid}
 use Rattle.paper.specs.Builders.{Forward, Lent, Backward}
 use Rattle.pages.specs.Texts.{Filled}
-use Rattle.paper.specs.declared.Built.{Built}
-use Rattle.paper.specs.declared.BuiltBoth.{BuiltBoth}
-use Rattle.paper.specs.declared.Stepped.{Stepped}
-use Rattle.paper.specs.declared.Written.{Written}
+use Rattle.replies.specs.declared.Built.{Built}
+use Rattle.replies.specs.declared.BuiltBoth.{BuiltBoth}
+use Rattle.replies.specs.declared.Stepped.{Stepped}
+use Rattle.replies.specs.declared.Written.{Written}
 
 -- A call's contract is one equation: what its answer and the lent memory that it leaves say is its outcome by definition.
 -- No second answer and memory meet it.

@@ -7,12 +7,12 @@ use native.Mathlib.Omega.{arith}
 use lib.ListN.{length, getD, take, drop, length-append, List·getD-append}
 use lib.Seq.{take-at}
 use borrow.Author.Tests.{le-leb, lt-leb}
-use Rattle.paper.specs.declared.Checked.{Checked}
-use Rattle.paper.specs.declared.Refusal.{Refusal}
-use Rattle.paper.specs.declared.Shape.{Shape}
-use Rattle.paper.specs.declared.Written.{Written}
+use Rattle.replies.specs.declared.Checked.{Checked}
+use Rattle.replies.specs.declared.Refusal.{Refusal}
+use Rattle.replies.specs.declared.Shape.{Shape}
+use Rattle.replies.specs.declared.Written.{Written}
 use Rattle.paper.specs.Lists.{inFront, zeros}
-use Rattle.paper.specs.Replies.{said, checkedSaid, writtenSaid}
+use Rattle.replies.specs.Replies.{said, checkedSaid, writtenSaid}
 use Rattle.paper.specs.Chart.{headSize}
 use Rattle.paper.specs.Check.{sizesFit, headFits, checkReply}
 use Rattle.pages.specs.Frames.{payload, frameFits}

@@ -2,7 +2,7 @@
 use mathlib.Core.List.{List}
 use Prim.Native.Nat.{ℕ}
 use Rattle.paper.specs.Lists.{zeros}
-use Rattle.paper.specs.declared.Written.{Written}
+use Rattle.replies.specs.declared.Written.{Written}
 
 -- a buffer as reading leaves it, once every refusal has zeroed it
 abbrev pub zeroedBy : Written → List ℕ → List ℕ

@@ -1,9 +1,9 @@
 // Printing a refusal.
 use frames::put_frame;
-use paper::Refusal;
-use paper::Written;
+use replies::Refusal;
+use replies::Written;
 ghost use mathlib.Core.Path.{_≡_};
-ghost use Rattle.paper.specs.Replies.{writtenSaid};
+ghost use Rattle.replies.specs.Replies.{writtenSaid};
 ghost use Rattle.pages.specs.Texts.{Filled, printRefusal};
 
 // A refusal's line has so many bytes.

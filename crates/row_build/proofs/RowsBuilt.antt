@@ -15,7 +15,7 @@ use Rattle.paper.specs.Numbering.{itself, place}
 use Rattle.paper.specs.Tables.{rowSize, gradeAt, nextAt}
 use Rattle.paper.specs.Constructions.{statesOf, tableOf, reverseBy, reverseStates, firstRowAt, firstRow, rowAfterAt, rowAfter, rowGrade, rowsBy, rowStates}
 use Rattle.paper.specs.Builders.{roomFits, stateMost, reverseMost, allZeros, backwardRoom, backwardBuilt, brzozowski, placed}
-use Rattle.paper.specs.declared.Shape.{Shape}
+use Rattle.replies.specs.declared.Shape.{Shape}
 use Rattle.lists.proofs.Tests.{both-split}
 use Rattle.lists.proofs.ByPlace.{tabulate-cong}
 use Rattle.numbering.proofs.Theorems.{states-some, states-each, states-closed}

@@ -10,12 +10,12 @@ use next_pairs::grade_holds;
 use next_pairs::start_holds;
 use pairs::bad_line;
 use pairs::bad_next;
-use paper::Checked;
-use paper::Refusal;
-use paper::Shape;
-use paper::Verdict;
+use replies::Checked;
+use replies::Refusal;
+use replies::Shape;
+use replies::Verdict;
 ghost use mathlib.Core.Path.{_≡_};
-ghost use Rattle.paper.specs.Replies.{verdictSaid};
+ghost use Rattle.replies.specs.Replies.{verdictSaid};
 ghost use Rattle.paper.specs.Sheets.{sheetReply};
 ghost use Rattle.lines.specs.Readable.{Readable, Indexed, linesReply, pairsReply};
 

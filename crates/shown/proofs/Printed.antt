@@ -7,18 +7,19 @@ use native.Mathlib.Omega.{arith}
 use lib.ListN.{length, getD, length-append}
 use lib.Dec.{eqb}
 use borrow.Author.Tests.{le-leb}
-use Rattle.paper.specs.declared.Refusal.{Refusal}
-use Rattle.paper.specs.declared.Written.{Written}
-use Rattle.paper.specs.declared.Checked.{Checked}
-use Rattle.paper.specs.declared.Built.{Built}
-use Rattle.paper.specs.Replies.{Reply, fine, said, checkedSaid, builtSaid, writtenSaid}
+use Rattle.replies.specs.declared.Refusal.{Refusal}
+use Rattle.replies.specs.declared.Written.{Written}
+use Rattle.replies.specs.declared.Checked.{Checked}
+use Rattle.replies.specs.declared.Built.{Built}
+use Rattle.paper.specs.Reply.{Reply, fine}
+use Rattle.replies.specs.Replies.{said, checkedSaid, builtSaid, writtenSaid}
 use Rattle.paper.specs.Chart.{letters}
 use Rattle.paper.specs.Check.{checkReply}
 use Rattle.paper.specs.Tables.{twoBytes, rowSize, tableFits, tableFitsChart}
 use Rattle.pages.specs.Frames.{lineLength}
 use Rattle.pages.specs.Texts.{Filled, printed, refusalText, printRefusal, tableText, tableTextSize, printTable}
 use Rattle.pages.specs.Programs.{orRefusal, builtText}
-use Rattle.paper.proofs.Said.{said-refuses}
+use Rattle.replies.proofs.Said.{said-refuses}
 use Rattle.lists.proofs.Bound.{product}
 use Rattle.lists.proofs.Tests.{not-both, both-left, both-right}
 use Rattle.frames.proofs.FrameWritten.{length-frame}

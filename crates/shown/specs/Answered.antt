@@ -4,8 +4,9 @@ use mathlib.Core.List.{List, [], _∷_}
 use Prim.Native.Nat.{ℕ, _≤_}
 use lib.ListN.{length}
 use Rattle.paper.specs.Lists.{inFront}
-use Rattle.paper.specs.Replies.{fine, writtenSaid}
-use Rattle.paper.specs.declared.Written.{Written}
+use Rattle.paper.specs.Reply.{fine}
+use Rattle.replies.specs.Replies.{writtenSaid}
+use Rattle.replies.specs.declared.Written.{Written}
 
 -- a text stands at a buffer's front, where there was room for it, and its length is known
 pub record Answered (text old new : List ℕ) (size : ℕ) : Type 0 where

@@ -4,7 +4,7 @@ use mathlib.Core.Bool.{true}
 use mathlib.Core.List.{List}
 use Prim.Native.Nat.{ℕ, _≤_}
 use lib.ListN.{getD}
-use Rattle.paper.specs.Replies.{Reply}
+use Rattle.paper.specs.Reply.{Reply}
 use Rattle.paper.specs.Chart.{letters}
 use Rattle.paper.specs.Check.{chartFits}
 use Rattle.paper.specs.Tables.{tableFitsChart}

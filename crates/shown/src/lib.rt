@@ -1,11 +1,11 @@
 // A table's text or a refusal's line, into the buffer that a program writes out.
-use paper::Built;
-use paper::Checked;
-use paper::Refusal;
-use paper::Written;
+use replies::Built;
+use replies::Checked;
+use replies::Refusal;
+use replies::Written;
 ghost use Prim.Native.Nat.{_≤_};
 ghost use lib.ListN.{length};
-ghost use Rattle.paper.specs.Replies.{said, builtSaid};
+ghost use Rattle.replies.specs.Replies.{said, builtSaid};
 ghost use Rattle.paper.specs.Chart.{letters};
 ghost use Rattle.pages.specs.Texts.{refusalText, tableText};
 ghost use Rattle.pages.specs.Programs.{builtText};
@@ -27,7 +27,7 @@ pub fn refuse(why: Refusal, out: &mut [u8]) -> usize
     requires { ⌜ answerMost ≤ length (now out) ⌝ }
     ensures { λ r. ⌜ Answered (refusalText (said why .0)) (now (out .entry)) (now (out .exit)) r ⌝ }
 {
-    size_of(refusals::print_refusal(paper::number(why), out))
+    size_of(refusals::print_refusal(replies::number(why), out))
 }
 
 // The table's text. A chart that a table was built of is not refused.

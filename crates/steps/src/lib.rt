@@ -1,7 +1,7 @@
 // One step of a table, and the grade of one state.
-use paper::Graded;
-use paper::Refusal;
-use paper::Stepped;
+use replies::Graded;
+use replies::Refusal;
+use replies::Stepped;
 use rows::GRADE_TOP;
 use rows::grade_at;
 use rows::next_at;
@@ -9,7 +9,7 @@ use rows::row_fits;
 use rows::size_fits;
 ghost use mathlib.Core.Path.{_≡_};
 ghost use Rattle.paper.specs.Tables.{stepReply, gradeReply};
-ghost use Rattle.paper.specs.Replies.{steppedSaid, gradedSaid};
+ghost use Rattle.replies.specs.Replies.{steppedSaid, gradedSaid};
 
 // One step from a state by a letter.
 pub fn step(rows: &[u8], count: usize, m: usize, state: usize, letter: usize) -> Stepped

@@ -1,8 +1,8 @@
 // Checks and walks the tables on standard input, stored as `cases` says, and prints a line for each answer: its number and values. A case is
 // a table with its count and m, and how many walks there are; a walk is a state, a letter and a word. The table check's line comes
 // first, then for each walk those of the step, of the state's grade and of the word's.
-use paper::Graded;
-use paper::Stepped;
+use replies::Graded;
+use replies::Stepped;
 use steps::grade;
 use steps::step;
 use tables::check_table;

@@ -9,7 +9,7 @@ use lib.ListN.{length, getD, drop}
 use lib.Seq.{drop-cons, drop-length}
 use borrow.Author.Tests.{le-ltb, lt-ltb, le-leb, lt-leb, ltb-true}
 use Rattle.paper.specs.Lists.{allBelow}
-use Rattle.paper.specs.Replies.{Reply}
+use Rattle.paper.specs.Reply.{Reply}
 use Rattle.paper.specs.Words.{after}
 use Rattle.paper.specs.Tables.{gradeAt, nextAt, rowFits, tableFits, nextBy, stateOf, tableGrade, letterFits, badLetter, wordReply, gradeTop, tableReply}
 use Rattle.rows.specs.RowIn.{RowIn}

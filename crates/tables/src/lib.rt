@@ -1,8 +1,8 @@
 // Checking a table, and the grade of a word by it.
-use paper::Graded;
-use paper::Refusal;
-use paper::Verdict;
 use places::Place;
+use replies::Graded;
+use replies::Refusal;
+use replies::Verdict;
 use rows::GRADE_TOP;
 use rows::grade_at;
 use rows::next_at;
@@ -11,7 +11,7 @@ use rows::wide;
 ghost use mathlib.Core.Path.{_≡_};
 ghost use lib.ListN.{length};
 ghost use Rattle.paper.specs.Tables.{badLetter, tableGrade, tableReply, wordReply};
-ghost use Rattle.paper.specs.Replies.{verdictSaid, gradedSaid};
+ghost use Rattle.replies.specs.Replies.{verdictSaid, gradedSaid};
 ghost use Rattle.tables.specs.Walking.{Walkable};
 ghost use Rattle.places.specs.Search.{placeFor};
 

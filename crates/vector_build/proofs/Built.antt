@@ -10,7 +10,7 @@ use Rattle.paper.specs.Chart.{nOf, letters}
 use Rattle.paper.specs.Check.{chartFits}
 use Rattle.paper.specs.Constructions.{statesOf, tableOf}
 use Rattle.paper.specs.Builders.{roomFits, stateMost, forwardRoom, forwardBuilt, forward, placed}
-use Rattle.paper.specs.declared.Shape.{Shape}
+use Rattle.replies.specs.declared.Shape.{Shape}
 use Rattle.cells.specs.Shaped.{Shaped}
 use Rattle.kinds.specs.Kinds.{vectorsBy}
 use Rattle.walk.specs.Walked.{statesBy, Made, MadeAs}

@@ -7,7 +7,7 @@ use native.Mathlib.Omega.{arith}
 use lib.Arith.{digits-lt}
 use lib.ListN.{getD, take, drop, length-take, length-drop}
 use lib.Seq.{getD-take, getD-drop}
-use Rattle.paper.specs.declared.Shape.{Shape}
+use Rattle.replies.specs.declared.Shape.{Shape}
 use Rattle.paper.specs.Chart.{headSize, nOf, letters, startFrom, endFrom, matrixFrom, gradeFrom, entry, startVec, endVec}
 use Rattle.paper.specs.Vectors.{combine, combineTerm, colEntry, colTerm, endGrade, startGrade}
 use Rattle.lists.proofs.ByPlace.{getD-tabulate}

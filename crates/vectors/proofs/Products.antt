@@ -8,7 +8,7 @@ use native.Mathlib.Omega.{arith}
 use native.Mathlib.Decide.{decLt}
 use lib.ListN.{length, getD, take, drop, set, length-set, length-append, length-drop, length-replicate, getD-replicate, List·getD-append}
 use lib.Seq.{getD-set-same, getD-set-other, length-take-le, drop-at}
-use Rattle.paper.specs.declared.Shape.{Shape}
+use Rattle.replies.specs.declared.Shape.{Shape}
 use Rattle.paper.specs.Lists.{tabulate, inFront, zeros}
 use Rattle.paper.specs.Chart.{nOf, join, prod, entry}
 use Rattle.paper.specs.Vectors.{joins, combineTerm, combine, rowTerm, rowEntry, rowTimes, colEntry, timesCol}

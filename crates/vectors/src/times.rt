@@ -3,7 +3,7 @@ use cells::entry;
 use cells::join;
 use cells::prod;
 use lists::zero;
-use paper::Shape;
+use replies::Shape;
 ghost use mathlib.Core.Path.{_≡_};
 ghost use Prim.Native.Nat.{_+_, _*_, _<_, _≤_};
 ghost use lib.ListN.{length};

@@ -8,7 +8,7 @@ use lib.ListN.{length}
 use Rattle.paper.specs.Chart.{letters}
 use Rattle.paper.specs.Check.{chartFits}
 use Rattle.paper.specs.Builders.{roomFits}
-use Rattle.paper.specs.declared.Shape.{Shape}
+use Rattle.replies.specs.declared.Shape.{Shape}
 use Rattle.cells.specs.Shaped.{Shaped}
 use Rattle.kinds.specs.Kinds.{ofVectors}
 use Rattle.kinds.specs.Ready.{WidthFits}

@@ -4,7 +4,7 @@ use mathlib.Core.List.{List, [], _∷_}
 use Prim.Native.Nat.{ℕ, _<_}
 use native.Mathlib.Omega.{arith}
 use lib.ListN.{getD}
-use Rattle.paper.specs.Replies.{Reply}
+use Rattle.paper.specs.Reply.{Reply}
 use Rattle.paper.specs.Builders.{blank}
 use Rattle.paper.specs.Figures.{chartE, chart2, chart32, tableE, sheetE}
 use Rattle.paper.proofs.Figures.{definitions}

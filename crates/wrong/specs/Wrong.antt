@@ -4,7 +4,7 @@ use mathlib.Core.List.{List}
 use Prim.Native.Nat.{ℕ, suc, _*_, _<_}
 use lib.ListN.{getD}
 use Rattle.paper.specs.Lists.{part, inFront}
-use Rattle.paper.specs.Replies.{Reply}
+use Rattle.paper.specs.Reply.{Reply}
 use Rattle.paper.specs.Chart.{letters}
 use Rattle.paper.specs.Tables.{rowSize}
 use Rattle.paper.specs.Builders.{nerode, reduced, brzozowski, blank, blankTable, blankVectors}

@@ -1,8 +1,8 @@
 // The wrong programs that document 01 names: that none of them meets a contract is in specs/ and proofs/, and two are put in the place of
 // this call, whole (must-fail/).
-use paper::Built;
+use replies::Built;
 ghost use mathlib.Core.Path.{_≡_};
-ghost use Rattle.paper.specs.Replies.{builtSaid};
+ghost use Rattle.replies.specs.Replies.{builtSaid};
 ghost use Rattle.paper.specs.Builders.{nerode};
 
 // The Nerode call under its contract and with no proof of its own, so that another body is judged by the contract alone.

@@ -5,18 +5,18 @@ ghost use Prim.Native.Nat.{_<_, _≤_};
 ghost use lib.ListN.{length};
 ghost use Rattle.cells.specs.Shaped.{Shaped};
 ghost use Rattle.vectors.specs.Products.{Grades};
-use paper::Built;
-use paper::BuiltBoth;
-use paper::Checked;
-use paper::Shape;
-use paper::Verdict;
+use replies::Built;
+use replies::BuiltBoth;
+use replies::Checked;
+use replies::Shape;
+use replies::Verdict;
 
 // The number of the refusal, or 0.
 #[no_mangle]
 pub extern "C" fn yard_check(chart: &[u8]) -> u8 {
     match chart::check(chart) {
         Checked::Fine(_) => 0,
-        Checked::Refused(why) => paper::number(why),
+        Checked::Refused(why) => replies::number(why),
     }
 }
 
@@ -137,6 +137,6 @@ pub extern "C" fn yard_check_sheet(
 ) -> u8 {
     match sheets::check_sheet(chart, rows, count, m, sheet, lines) {
         Verdict::Accepted => 0,
-        Verdict::Refused(why) => paper::number(why),
+        Verdict::Refused(why) => replies::number(why),
     }
 }

@@ -6,8 +6,8 @@ use native.Mathlib.Omega.{arith}
 use denote.Ref.{now}
 use borrow.Author.Needs.{needs}
 use borrow.Author.Tests.{not-true, not-false}
-use Rattle.paper.specs.declared.Shape.{Shape}
-use Rattle.paper.specs.Replies.{shapeSaid}
+use Rattle.replies.specs.declared.Shape.{Shape}
+use Rattle.replies.specs.Replies.{shapeSaid}
 use Rattle.paper.specs.Check.{headFits, shapeOf}
 use Rattle.chart.proofs.Ranges.{sizes-are}
 use Rattle.chart.proofs.Checked.{Headed, Laid, Graded, head-shape, size-is, shaped-by, reply-head, reply-sizes, reply-short, reply-grade, reply-law, reply-fine}

@@ -46,10 +46,10 @@ use denote.Triple.Walked.{says, Stays, stay-none, stay-none-slice, walkOf, goes-
 use denote.Exit.{yes}
 use denote.Triple.Clauses.{ensured, lasts}
 use Rattle.paper.specs.Tables.{stepReply}
-use Rattle.paper.specs.Replies.{steppedSaid}
-use Rattle.paper.specs.declared.Stepped.{Stepped}
-use Rattle.paper.proofs.Stepped as S
-use Rattle.paper.proofs.Stepped.Laws as S′
+use Rattle.replies.specs.Replies.{steppedSaid}
+use Rattle.replies.specs.declared.Stepped.{Stepped}
+use Rattle.replies.proofs.Stepped as S
+use Rattle.replies.proofs.Stepped.Laws as S′
 use Rattle.bench.specs.Bench.{taken}
 use Rattle.bench.specs.declared.reader.Reader.{Reader}
 use Rattle.bench.proofs.Lent.{Rest, tokens-out, tokens-back, laid, taken-up}

@@ -39,10 +39,10 @@ use denote.Triple.Walked.{says, Stays, stay-none, stay-none-slice, walkOf, goes-
 use denote.Exit.{yes}
 use denote.Triple.Clauses.{ensured, lasts}
 use Rattle.paper.specs.Tables.{gradeReply}
-use Rattle.paper.specs.Replies.{gradedSaid}
-use Rattle.paper.specs.declared.Graded.{Graded}
-use Rattle.paper.proofs.Graded as S
-use Rattle.paper.proofs.Graded.Laws as S′
+use Rattle.replies.specs.Replies.{gradedSaid}
+use Rattle.replies.specs.declared.Graded.{Graded}
+use Rattle.replies.proofs.Graded as S
+use Rattle.replies.proofs.Graded.Laws as S′
 use Rattle.bench.specs.declared.reader.Reader.{Reader}
 use Rattle.bench.proofs.Made.{reader, reader-owns}
 use Rattle.bench.proofs.reader.Reader as T

@@ -42,13 +42,14 @@ use denote.Triple.Walked.{says, Stays, stay-none, walkOf, goes-none, Walks, ends
 use denote.Exit.{yes}
 use denote.Triple.Clauses.{ensured, lasts}
 use Rattle.paper.specs.Tables.{gradeReply}
-use Rattle.paper.specs.Replies.{Reply, gradedSaid}
+use Rattle.paper.specs.Reply.{Reply}
+use Rattle.replies.specs.Replies.{gradedSaid}
 use Rattle.bench.specs.declared.reader.Reader.{Reader}
-use Rattle.paper.specs.declared.Graded.{Graded}
+use Rattle.replies.specs.declared.Graded.{Graded}
 use Rattle.bench.proofs.reader.Reader as T
 use Rattle.bench.proofs.reader.Reader.Laws as T′
-use Rattle.paper.proofs.Graded as S
-use Rattle.paper.proofs.Graded.Laws as S′
+use Rattle.replies.proofs.Graded as S
+use Rattle.replies.proofs.Graded.Laws as S′
 use Rattle.steps.proofs.grade as callee
 use Rattle.steps.proofs.grade.Symbol as callee-def
 use Rattle.steps.proofs.grade.Symbol.{name as #steps·grade}

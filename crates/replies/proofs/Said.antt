@@ -5,18 +5,19 @@ use mathlib.Core.List.{[], _∷_}
 use Prim.Native.Nat.{ℕ, _-_}
 use lib.ListN.{getD}
 use lib.Dec.{eqb}
 use Rattle.paper.specs.Lists.{pick}
-use Rattle.paper.specs.Replies.{Reply, said, checkedSaid, verdictSaid, builtSaid, bothSaid, steppedSaid, gradedSaid, writtenSaid}
-use Rattle.paper.specs.declared.Refusal.{Refusal}
-use Rattle.paper.specs.declared.Refusal.the-variants.{Sizes, Short, Grade, Law, Room, Reverse, States, Letter, Table, Sheet, Start, Line, Next, Text}
-use Rattle.paper.specs.declared.Shape.{Shape}
-use Rattle.paper.specs.declared.Checked.{Checked}
-use Rattle.paper.specs.declared.Verdict.{Verdict}
-use Rattle.paper.specs.declared.Built.{Built}
-use Rattle.paper.specs.declared.BuiltBoth.{BuiltBoth}
-use Rattle.paper.specs.declared.Stepped.{Stepped}
-use Rattle.paper.specs.declared.Graded.{Graded}
-use Rattle.paper.specs.declared.Written.{Written}
+use Rattle.paper.specs.Reply.{Reply}
+use Rattle.replies.specs.Replies.{said, checkedSaid, verdictSaid, builtSaid, bothSaid, steppedSaid, gradedSaid, writtenSaid}
+use Rattle.replies.specs.declared.Refusal.{Refusal}
+use Rattle.replies.specs.declared.Refusal.the-variants.{Sizes, Short, Grade, Law, Room, Reverse, States, Letter, Table, Sheet, Start, Line, Next, Text}
+use Rattle.replies.specs.declared.Shape.{Shape}
+use Rattle.replies.specs.declared.Checked.{Checked}
+use Rattle.replies.specs.declared.Verdict.{Verdict}
+use Rattle.replies.specs.declared.Built.{Built}
+use Rattle.replies.specs.declared.BuiltBoth.{BuiltBoth}
+use Rattle.replies.specs.declared.Stepped.{Stepped}
+use Rattle.replies.specs.declared.Graded.{Graded}
+use Rattle.replies.specs.declared.Written.{Written}
 
 -- what can be undone is one-to-one
 one-to-one : {A : Type 0} (say : A → Reply) (undo : Reply → A) → ((a : A) → undo (say a) ≡ a) → (a b : A) → say a ≡ say b → a ≡ b

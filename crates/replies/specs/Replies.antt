@@ -1,24 +1,17 @@
 -- Document 01's number and values for everything that a call can answer.
 use mathlib.Core.List.{List, [], _∷_}
 use Prim.Native.Nat.{ℕ}
-use Rattle.paper.specs.declared.Refusal.{Refusal}
-use Rattle.paper.specs.declared.Refusal.the-variants.{Sizes, Short, Grade, Law, Room, Reverse, States, Letter, Table, Sheet, Start, Line, Next, Text}
-use Rattle.paper.specs.declared.Shape.{Shape}
-use Rattle.paper.specs.declared.Checked.{Checked}
-use Rattle.paper.specs.declared.Verdict.{Verdict}
-use Rattle.paper.specs.declared.Built.{Built}
-use Rattle.paper.specs.declared.BuiltBoth.{BuiltBoth}
-use Rattle.paper.specs.declared.Stepped.{Stepped}
-use Rattle.paper.specs.declared.Graded.{Graded}
-use Rattle.paper.specs.declared.Written.{Written}
-
--- an answer: the refusal's number, 0 where nothing is refused, and the values that go with it
-abbrev pub Reply : Type 0
-Reply = ℕ × List ℕ
-
--- nothing is refused, and these are the values
-abbrev pub fine : List ℕ → Reply
-fine values = (0, values)
+use Rattle.replies.specs.declared.Refusal.{Refusal}
+use Rattle.replies.specs.declared.Refusal.the-variants.{Sizes, Short, Grade, Law, Room, Reverse, States, Letter, Table, Sheet, Start, Line, Next, Text}
+use Rattle.replies.specs.declared.Shape.{Shape}
+use Rattle.replies.specs.declared.Checked.{Checked}
+use Rattle.replies.specs.declared.Verdict.{Verdict}
+use Rattle.replies.specs.declared.Built.{Built}
+use Rattle.replies.specs.declared.BuiltBoth.{BuiltBoth}
+use Rattle.replies.specs.declared.Stepped.{Stepped}
+use Rattle.replies.specs.declared.Graded.{Graded}
+use Rattle.replies.specs.declared.Written.{Written}
+use Rattle.paper.specs.Reply.{Reply, fine}
 
 abbrev pub said : Refusal → Reply
 said Sizes = (1, [])
