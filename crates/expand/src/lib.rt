@@ -1,6 +1,6 @@
 // One state expanded: its row written, and what is new among its next states kept.
 use kinds::Plan;
-use kinds::grade_by;
+use moves::grade_by;
 use nexts::Grown;
 use nexts::nexts;
 use settle::copy_of;

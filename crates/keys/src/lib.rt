@@ -1,4 +1,4 @@
-// The keys by which states are told apart: in the reduced table what each letter makes of the vector, and its grade; elsewhere the value itself.
+// Whether a key is that of a value: in the reduced table what each letter makes of the vector, and its grade; elsewhere the value itself.
 use kinds::Plan;
 use kinds::keyed;
 use marks::same;
@@ -6,29 +6,14 @@ use replies::Shape;
 use vectors::times::end_grade;
 use vectors::times::row_times;
 ghost use mathlib.Core.Path.{_≡_};
-ghost use Prim.Native.Nat.{_+_, _*_, _≤_, _<_};
+ghost use Prim.Native.Nat.{_+_, _*_, _<_};
 ghost use lib.ListN.{length};
-ghost use Rattle.paper.specs.Lists.{inFront, sameList, allBelow};
+ghost use Rattle.paper.specs.Lists.{sameList, allBelow};
 ghost use Rattle.paper.specs.Vectors.{rowTimes};
 ghost use Rattle.paper.specs.Constructions.{reducedKey};
 ghost use Rattle.cells.specs.Shaped.{Shaped};
-ghost use Rattle.kinds.specs.Kinds.{letterSame, keyed, keyBy, keySize};
+ghost use Rattle.kinds.specs.Kinds.{letterSame, keyBy, keySize};
 ghost use Rattle.kinds.specs.Ready.{Value, Sized};
-
-// The key of the vector v in the reduced table, into the front of `out`: what each letter makes of it, and its grade.
-pub fn put_key(chart: &[u8], shape: Shape, v: &[u8], out: &mut [u8])
-    requires { ⌜ Shaped (now chart) shape × Value (shape .k) (shape .n) (now v) × (shape .letters * shape .n + 1 ≤ length (now out)) ⌝ }
-    ensures { λ _. ⌜ now (out .exit) ≡ inFront (reducedKey (now (chart .entry)) (now (v .entry))) (now (out .entry)) ⌝ }
-{
-    let mut at = 0;
-    let mut letter = 0;
-    while letter < shape.letters {
-        row_times(chart, shape, letter, v, &mut out[at..]);
-        at += shape.n;
-        letter += 1;
-    }
-    out[at] = end_grade(chart, shape, v);
-}
 
 // Whether letter x makes `due` of the vector v.
 pub fn makes(chart: &[u8], shape: Shape, x: usize, v: &[u8], due: &[u8]) -> bool

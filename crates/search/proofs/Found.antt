@@ -28,7 +28,7 @@ use Rattle.search.specs.Kept.{keptIn, Valued, Holds, FoundFor, Sought}
 use Rattle.kinds.specs.declared.Kind.{Kind}
 use Rattle.kinds.specs.declared.Plan.{Plan}
 use Rattle.kinds.proofs.KindLaws.{own-key, own-size}
-use Rattle.keys.proofs.Keys.{length-key}
+use Rattle.kinds.proofs.Keys.{length-key}
 
 -- the bytes that the code takes at a running offset
 pub taken : (stride w : ℕ) (xs : List ℕ) (s at : ℕ) → at ≡ s * stride → take (at + w - at) (drop at xs) ≡ placeAt stride w xs s

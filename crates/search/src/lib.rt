@@ -1,5 +1,5 @@
 // Where a candidate's key stands among the kept ones.
-use keys::put_key;
+use key_bytes::put_key;
 use keys::same_by;
 use kinds::Plan;
 use kinds::keyed;

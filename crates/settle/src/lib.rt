@@ -1,6 +1,6 @@
 // What a letter leads to, worked out in the first free place, and kept there if it is new.
 use kinds::Plan;
-use kinds::step_into;
+use moves::step_into;
 use places::Place;
 use search::seek;
 ghost use mathlib.Core.Path.{_≡_};

@@ -1,21 +1,21 @@
 -- What the sheet check answers, return by return. Assumes nothing.
 use mathlib.Core.Path.{_≡_, sym, _∙_}
 use mathlib.Core.Bool.{true, false}
-use mathlib.Core.List.{List, [], _∷_}
-use Prim.Native.Nat.{ℕ, _+_, _*_, _≤_, _<_}
+use mathlib.Core.List.{List, []}
+use Prim.Native.Nat.{ℕ, _+_, _*_, _<_}
 use lib.Dec.{eqb, leb, ltb}
 use lib.ListN.{length, getD}
-use borrow.Author.Tests.{le-leb, lt-leb, leb-true, ltb-true, eqb-true}
+use borrow.Author.Tests.{leb-true, ltb-true, eqb-true}
 use Rattle.replies.specs.declared.Checked.{Checked}
 use Rattle.replies.specs.declared.Refusal.{Refusal}
 use Rattle.replies.specs.declared.Shape.{Shape}
-use Rattle.paper.specs.Lists.{both, allBelow, leastFail}
+use Rattle.paper.specs.Lists.{both, allBelow}
 use Rattle.paper.specs.Reply.{Reply}
 use Rattle.replies.specs.Replies.{said, checkedSaid}
 use Rattle.paper.specs.Chart.{kOf, nOf, letters, startVec}
 use Rattle.paper.specs.Check.{checkReply}
 use Rattle.paper.specs.Tables.{tableFits, tableFitsChart}
-use Rattle.paper.specs.Sheets.{lineState, lineVector, lineGradeFits, lineFits, sheetFits, onSheet, gradeHolds, nextHolds, badLine, lineReply, sheetReply}
+use Rattle.paper.specs.Sheets.{lineState, lineVector, lineGradeFits, lineFits, sheetFits, onSheet, sheetReply}
 use Rattle.lists.proofs.Tests.{both-split, all-at}
 use Rattle.cells.specs.Shaped.{Shaped}
 use Rattle.chart.proofs.Checked.{fits-fine, fits-refused}
@@ -53,22 +53,6 @@ module _ {c : List ℕ} {s : Shape} (h : Shaped c s) (rows : List ℕ) (count m 
       }
 
 -- ---- the lines
-
-module _ (c rows sheet : List ℕ) (lines : ℕ) {i : ℕ} (e : i ≡ badLine c rows sheet lines) where
-  pub all-hold : lines ≤ i → _≡_ {A = Reply} (0, []) (linesReply c rows sheet lines)
-  unfolding linesReply
-  all-hold l = rw (le-leb lines (badLine c rows sheet lines) (rw e at l))
-
-  module _ (l : i < lines) where
-    pub grade-wrong : gradeHolds c rows sheet i ≡ false → _≡_ {A = Reply} (12, i ∷ []) (linesReply c rows sheet lines)
-    unfolding linesReply lineReply
-    grade-wrong f = rw (← e, lt-leb lines i l, f)
-
-    pub next-wrong : gradeHolds c rows sheet i ≡ true → (x : ℕ) → x ≡ leastFail (letters c) (nextHolds c rows sheet lines i) → _≡_ {A = Reply} (13, i ∷ x ∷ []) (linesReply c rows sheet lines)
-    unfolding linesReply lineReply
-    next-wrong f x q = rw (← e, lt-leb lines i l, f, q)
-
--- ---- the start pair
 
 module _ (c rows sheet : List ℕ) (lines : ℕ) where
   pub start-wrong : onSheet c sheet lines 0 (startVec c) ≡ false → _≡_ {A = Reply} (11, []) (pairsReply c rows sheet lines)

@@ -6,54 +6,19 @@ use lines::sheet_fits;
 use marks::chains::no_heads;
 use marks::chains::no_links;
 use marks::chains::no_marks;
-use next_pairs::grade_holds;
 use next_pairs::start_holds;
-use pairs::bad_line;
-use pairs::bad_next;
 use replies::Checked;
 use replies::Refusal;
 use replies::Shape;
 use replies::Verdict;
+use sheet_lines::check_lines;
 ghost use mathlib.Core.Path.{_≡_};
 ghost use Rattle.replies.specs.Replies.{verdictSaid};
 ghost use Rattle.paper.specs.Sheets.{sheetReply};
-ghost use Rattle.lines.specs.Readable.{Readable, Indexed, linesReply, pairsReply};
-
-// Inner: the lines of a sheet that fits and has an index, one after the other.
-pub(crate) fn check_lines(
-    chart: &[u8],
-    shape: Shape,
-    rows: &[u8],
-    sheet: &[u8],
-    lines: usize,
-    heads: &[u16],
-    links: &[u16],
-    marks: &[u32],
-) -> Verdict
-    requires { ⌜ Readable (now chart) shape (now rows) (now sheet) lines × Indexed (now chart) shape (now sheet) lines (now heads) (now links) (now marks) ⌝ }
-    ensures { λ r. ⌜ verdictSaid r ≡ linesReply (now (chart .entry)) (now (rows .entry)) (now (sheet .entry)) lines ⌝ }
-{
-    let i = bad_line(chart, shape, rows, sheet, lines, heads, links, marks);
-    if lines <= i {
-        return Verdict::Accepted;
-    }
-    if !grade_holds(chart, shape, rows, sheet, lines, i) {
-        return Verdict::Refused(Refusal::Line { line: i });
-    }
-    Verdict::Refused(Refusal::Next {
-        line: i,
-        letter: bad_next(chart, shape, rows, sheet, lines, heads, links, marks, i),
-    })
-}
+ghost use Rattle.lines.specs.Readable.{Readable, pairsReply};
 
 // Inner: the pairs of a sheet that fits. The lines are numbered once, so that a pair is sought among few of them.
-pub(crate) fn check_pairs(
-    chart: &[u8],
-    shape: Shape,
-    rows: &[u8],
-    sheet: &[u8],
-    lines: usize,
-) -> Verdict
+fn check_pairs(chart: &[u8], shape: Shape, rows: &[u8], sheet: &[u8], lines: usize) -> Verdict
     requires { ⌜ Readable (now chart) shape (now rows) (now sheet) lines ⌝ }
     ensures { λ r. ⌜ verdictSaid r ≡ pairsReply (now (chart .entry)) (now (rows .entry)) (now (sheet .entry)) lines ⌝ }
 {

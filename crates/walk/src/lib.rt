@@ -1,11 +1,11 @@
 // State after state expanded, until there is no further state or they outnumber the room.
 use expand::expand;
 use kinds::Plan;
-use kinds::put_first;
 use lists::zero;
 use marks::chains::no_heads;
 use marks::chains::no_links;
 use marks::chains::no_marks;
+use moves::put_first;
 use nexts::Grown;
 use search::seek;
 ghost use Rattle.walk.specs.Walked.{WalkAsks, WalkedAs, GrowAsks, MadeAs};

@@ -11,7 +11,7 @@ use Rattle.expand.proofs.write_row.Statement.{statement}
 use Rattle.expand.proofs.write_row.Tie as tie
 use Rattle.expand.proofs.write_row.Reads as reads
 use Rattle.expand.proofs.write_row.Lts as lts
-use Rattle.kinds.proofs.grade_by.Reads as grade-by-reads
+use Rattle.moves.proofs.grade_by.Reads as grade-by-reads
 use Rattle.nexts.proofs.nexts.Reads as nexts-reads
 
 grade-by-requires : tie.Need-grade-by-requires

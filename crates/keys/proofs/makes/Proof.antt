@@ -1,6 +1,6 @@
 use denote.Ref.{now}
 use mathlib.Core.Path.{refl, sym, _∙_}
-use Rattle.keys.proofs.Keys.{made-long, made-front}
+use Rattle.kinds.proofs.Keys.{made-long, made-front}
 use Rattle.kinds.proofs.KindLaws.{as-grades}
 use borrow.Author.Needs.{needs}
 use Rattle.keys.proofs.makes.Statement.{statement}

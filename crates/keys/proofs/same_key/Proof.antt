@@ -1,4 +1,4 @@
-use Rattle.keys.proofs.Keys.{grade-differs, letters-decide}
+use Rattle.kinds.proofs.Keys.{grade-differs, letters-decide}
 use borrow.Author.Needs.{needs}
 use Rattle.keys.proofs.same_key.Statement.{statement}
 use Rattle.keys.proofs.same_key.Tie as tie

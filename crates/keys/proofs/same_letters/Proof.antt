@@ -2,7 +2,7 @@ use native.Mathlib.Nat.{suc-mul}
 use native.Mathlib.Numerals.{add-one}
 use lib.ListN.{length}
 use Rattle.lists.proofs.Tests.{fell, held}
-use Rattle.keys.proofs.Keys.{letter-inside, part-long}
+use Rattle.kinds.proofs.Keys.{letter-inside, part-long}
 use mathlib.Core.Bool.{true}
 use mathlib.Core.Path.{_≡_, refl, sym}
 use Prim.Native.Nat.{_*_, _≤_, _-_}
@@ -12,7 +12,7 @@ use denote.Ref.{now}
 use Rattle.lists.proofs.Tests.{all-more, all-fails}
 use Rattle.paper.specs.Lists.{allBelow}
 use Rattle.kinds.specs.Kinds.{letterSame}
-use Rattle.keys.proofs.Keys.{letter-part}
+use Rattle.kinds.proofs.Keys.{letter-part}
 use borrow.Author.Needs.{needs}
 use Rattle.keys.proofs.same_letters.Statement.{statement}
 use Rattle.keys.proofs.same_letters.Tie as tie

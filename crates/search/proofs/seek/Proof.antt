@@ -3,7 +3,7 @@ use mathlib.Core.Path.{sym, ap, _∙_}
 use lib.ListN.{length}
 use native.Mathlib.Omega.{arith}
 use denote.Ref.{now}
-use Rattle.keys.proofs.Keys.{key-front, length-key}
+use Rattle.kinds.proofs.Keys.{key-front, length-key}
 use Rattle.kinds.proofs.KindLaws.{keyed-is, key-asks, key-small}
 use Rattle.search.proofs.Found.{place-inside, place-small, candidate, key-reduced, size-reduced, key-itself, size-itself}
 use borrow.Author.Needs.{needs}
@@ -12,7 +12,7 @@ use Rattle.search.proofs.seek.Tie as tie
 use Rattle.search.proofs.seek.Reads as reads
 use Rattle.search.proofs.seek.Lts as lts
 use Rattle.kinds.proofs.keyed.Reads as keyed-reads
-use Rattle.keys.proofs.put_key.Reads as put-key-reads
+use Rattle.key_bytes.proofs.put_key.Reads as put-key-reads
 use Rattle.search.proofs.look.Reads as look-reads
 
 mul-from : tie.Need-mul-from

@@ -8,7 +8,7 @@ use Rattle.settle.proofs.settle.Statement.{statement}
 use Rattle.settle.proofs.settle.Tie as tie
 use Rattle.settle.proofs.settle.Reads as reads
 use Rattle.settle.proofs.settle.Lts as lts
-use Rattle.kinds.proofs.step_into.Reads as step-into-reads
+use Rattle.moves.proofs.step_into.Reads as step-into-reads
 use Rattle.search.proofs.seek.Reads as seek-reads
 
 mul-from : tie.Need-mul-from

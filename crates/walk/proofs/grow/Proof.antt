@@ -12,7 +12,7 @@ use Rattle.walk.proofs.grow.Statement.{statement}
 use Rattle.walk.proofs.grow.Tie as tie
 use Rattle.walk.proofs.grow.Reads as reads
 use Rattle.walk.proofs.grow.Lts as lts
-use Rattle.kinds.proofs.put_first.Reads as put-first-reads
+use Rattle.moves.proofs.put_first.Reads as put-first-reads
 use Rattle.search.proofs.seek.Reads as seek-reads
 use Rattle.walk.proofs.walk.Reads as walk-reads
 use Rattle.lists.proofs.zero.Reads as zero-reads

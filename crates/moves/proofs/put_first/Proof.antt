@@ -1,10 +1,10 @@
 use Rattle.kinds.proofs.KindLaws.{start-front, end-front, start-asks, end-asks}
 use borrow.Author.Needs.{needs}
-use Rattle.kinds.proofs.put_first.Statement.{statement}
-use Rattle.kinds.proofs.put_first.Tie as tie
-use Rattle.kinds.proofs.put_first.Reads as reads
-use Rattle.kinds.proofs.put_first.Lts as lts
-use Rattle.kinds.proofs.put_table_grades.Reads as put-table-grades-reads
+use Rattle.moves.proofs.put_first.Statement.{statement}
+use Rattle.moves.proofs.put_first.Tie as tie
+use Rattle.moves.proofs.put_first.Reads as reads
+use Rattle.moves.proofs.put_first.Lts as lts
+use Rattle.moves.proofs.put_table_grades.Reads as put-table-grades-reads
 use Rattle.vectors.proofs.times.put_grades.Reads as put-grades-reads
 
 enum-told : tie.Need-enum-told

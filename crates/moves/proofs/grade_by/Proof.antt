@@ -1,12 +1,12 @@
 use Prim.Native.Nat.{_≤_}
 use native.Mathlib.Omega.{arith}
 use Rattle.paper.specs.Constructions.{rowGrade}
 use Rattle.kinds.proofs.KindLaws.{as-grades}
 use borrow.Author.Needs.{needs}
-use Rattle.kinds.proofs.grade_by.Statement.{statement}
-use Rattle.kinds.proofs.grade_by.Tie as tie
-use Rattle.kinds.proofs.grade_by.Reads as reads
-use Rattle.kinds.proofs.grade_by.Lts as lts
+use Rattle.moves.proofs.grade_by.Statement.{statement}
+use Rattle.moves.proofs.grade_by.Tie as tie
+use Rattle.moves.proofs.grade_by.Reads as reads
+use Rattle.moves.proofs.grade_by.Lts as lts
 use Rattle.vectors.proofs.times.end_grade.Reads as end-grade-reads
 use Rattle.vectors.proofs.times.start_grade.Reads as start-grade-reads
 

@@ -13,12 +13,12 @@ use Rattle.lists.proofs.Lent.{inFront-none}
 use Rattle.paper.specs.Lists.{joined, inFront}
 use Rattle.paper.specs.Constructions.{letterKey}
 use Rattle.kinds.proofs.KindLaws.{as-grades}
-use Rattle.keys.proofs.Keys.{letter-inside, key-more, key-all}
+use Rattle.kinds.proofs.Keys.{letter-inside, key-more, key-all}
 use borrow.Author.Needs.{needs}
-use Rattle.keys.proofs.put_key.Statement.{statement}
-use Rattle.keys.proofs.put_key.Tie as tie
-use Rattle.keys.proofs.put_key.Reads as reads
-use Rattle.keys.proofs.put_key.Lts as lts
+use Rattle.key_bytes.proofs.put_key.Statement.{statement}
+use Rattle.key_bytes.proofs.put_key.Tie as tie
+use Rattle.key_bytes.proofs.put_key.Reads as reads
+use Rattle.key_bytes.proofs.put_key.Lts as lts
 use Rattle.vectors.proofs.times.end_grade.Reads as end-grade-reads
 use Rattle.vectors.proofs.times.row_times.Reads as row-times-reads
 

@@ -1,11 +1,11 @@
 use mathlib.Core.Path.{sym}
 use Rattle.kinds.proofs.KindLaws.{product-asks, bytes}
 use borrow.Author.Needs.{needs}
-use Rattle.kinds.proofs.step_into.Statement.{statement}
-use Rattle.kinds.proofs.step_into.Tie as tie
-use Rattle.kinds.proofs.step_into.Reads as reads
-use Rattle.kinds.proofs.step_into.Lts as lts
-use Rattle.kinds.proofs.put_next_row.Reads as put-next-row-reads
+use Rattle.moves.proofs.step_into.Statement.{statement}
+use Rattle.moves.proofs.step_into.Tie as tie
+use Rattle.moves.proofs.step_into.Reads as reads
+use Rattle.moves.proofs.step_into.Lts as lts
+use Rattle.moves.proofs.put_next_row.Reads as put-next-row-reads
 use Rattle.vectors.proofs.times.row_times.Reads as row-times-reads
 use Rattle.vectors.proofs.times.times_col.Reads as times-col-reads
 

@@ -6,13 +6,13 @@ use lib.ListN.{length}
 use native.Mathlib.Nat.{zero-mul}
 use native.Mathlib.Omega.{arith}
 use Rattle.paper.specs.Lists.{tabulate, inFront}
 use Rattle.kinds.specs.Kinds.{nextRow, nextRowAt}
 use Rattle.lists.proofs.Lent.{inFront-none, inFront-tabulate}
 use borrow.Author.Needs.{needs}
-use Rattle.kinds.proofs.put_next_row.Statement.{statement}
-use Rattle.kinds.proofs.put_next_row.Tie as tie
-use Rattle.kinds.proofs.put_next_row.Reads as reads
-use Rattle.kinds.proofs.put_next_row.Lts as lts
+use Rattle.moves.proofs.put_next_row.Statement.{statement}
+use Rattle.moves.proofs.put_next_row.Tie as tie
+use Rattle.moves.proofs.put_next_row.Reads as reads
+use Rattle.moves.proofs.put_next_row.Lts as lts
 
 abbrev Inv-loop : tie.InvT-loop
 Inv-loop table letters count x row out₀ size at₀ i₀ out at i = (i ≤ count) × (at ≡ i * size + (1 + 2 * x)) × (length out ≡ length out₀) × (out ≡ inFront (tabulate i (nextRowAt table letters x row)) out₀)

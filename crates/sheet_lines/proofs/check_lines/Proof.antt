@@ -1,9 +1,9 @@
 -- `sheets::check_lines` meets its contract: each return is what the tests on its way make of `linesReply`. Assumes nothing.
 use Rattle.lists.proofs.Tests.{fell, held}
-use Rattle.sheets.proofs.Answers.{all-hold, grade-wrong, next-wrong}
+use Rattle.sheet_lines.proofs.LineAnswers.{all-hold, grade-wrong, next-wrong}
 use borrow.Author.Needs.{needs}
-use Rattle.sheets.proofs.check_lines.Statement.{statement}
-use Rattle.sheets.proofs.check_lines.Tie as tie
+use Rattle.sheet_lines.proofs.check_lines.Statement.{statement}
+use Rattle.sheet_lines.proofs.check_lines.Tie as tie
 
 bad-line-requires : tie.Need-bad-line-requires
 bad-line-requires c κs = search needs

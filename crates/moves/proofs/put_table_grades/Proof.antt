@@ -7,13 +7,13 @@ use native.Mathlib.Nat.{zero-mul}
 use native.Mathlib.Omega.{arith}
 use Rattle.paper.specs.Tables.{gradeAt}
 use Rattle.paper.specs.Lists.{tabulate, inFront}
 use Rattle.kinds.specs.Kinds.{gradesIn}
 use Rattle.lists.proofs.Lent.{inFront-none, inFront-tabulate}
 use borrow.Author.Needs.{needs}
-use Rattle.kinds.proofs.put_table_grades.Statement.{statement}
-use Rattle.kinds.proofs.put_table_grades.Tie as tie
-use Rattle.kinds.proofs.put_table_grades.Reads as reads
-use Rattle.kinds.proofs.put_table_grades.Lts as lts
+use Rattle.moves.proofs.put_table_grades.Statement.{statement}
+use Rattle.moves.proofs.put_table_grades.Tie as tie
+use Rattle.moves.proofs.put_table_grades.Reads as reads
+use Rattle.moves.proofs.put_table_grades.Lts as lts
 
 abbrev Inv-loop : tie.InvT-loop
 Inv-loop table letters count out₀ size at₀ i₀ out at i = (i ≤ count) × (at ≡ i * size) × (length out ≡ length out₀) × (out ≡ inFront (tabulate i (λ i. gradeAt table letters i)) out₀)
