@@ -1,4 +1,4 @@
--- `sheets::index::index_lines` meets its contract. The loop's invariant: the lines passed are in the index. Assumes nothing.
+-- `index::index_lines` meets its contract. The loop's invariant: the lines passed are in the index. Assumes nothing.
 use native.Mathlib.Omega.{arith}
 use mathlib.Core.Path.{_≡_, refl, _∙_}
 use Prim.Native.Nat.{_-_}

@@ -1,4 +1,4 @@
--- `sheets::index::is_pair` meets its contract: a line with another number holds another pair. Assumes nothing.
+-- `index::is_pair` meets its contract: a line with another number holds another pair. Assumes nothing.
 use denote.Ref.{now}
 use mathlib.Core.Path.{sym, ap, _∙_}
 use mathlib.Core.List.{List}

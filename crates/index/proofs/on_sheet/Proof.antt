@@ -1,4 +1,4 @@
--- `sheets::index::on_sheet` meets its contract. The loop's invariant: no line from the entry on holds the pair. Assumes nothing.
+-- `index::on_sheet` meets its contract. The loop's invariant: no line from the entry on holds the pair. Assumes nothing.
 use denote.Ref.{now}
 use mathlib.Core.Path.{_≡_}
 use Prim.Native.Nat.{_-_, _<_}

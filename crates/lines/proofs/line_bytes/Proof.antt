@@ -1,4 +1,4 @@
--- `sheets::lines::line_bytes` meets its contract. Assumes nothing.
+-- `lines::line_bytes` meets its contract. Assumes nothing.
 use mathlib.Core.Path.{refl}
 use Rattle.lines.proofs.Reading.{line-is}
 use borrow.Author.Needs.{needs}

@@ -1,4 +1,4 @@
--- `sheets::lines::line_fits` meets its contract. The loop's invariant: the grades passed are below k. Assumes nothing.
+-- `lines::line_fits` meets its contract. The loop's invariant: the grades passed are below k. Assumes nothing.
 use native.Mathlib.Omega.{arith}
 use mathlib.Core.Path.{_≡_, refl}
 use mathlib.Core.Bool.{true}

@@ -1,4 +1,4 @@
--- `sheets::lines::line_state` meets its contract. Assumes nothing.
+-- `lines::line_state` meets its contract. Assumes nothing.
 use Rattle.lines.proofs.Reading.{state-is}
 use borrow.Author.Needs.{needs}
 use Rattle.lines.proofs.line_state.Statement.{statement}

@@ -1,4 +1,4 @@
--- `sheets::lines::line_vector` meets its contract. Assumes nothing.
+-- `lines::line_vector` meets its contract. Assumes nothing.
 use mathlib.Core.Path.{refl}
 use Rattle.lines.proofs.Reading.{vector-is}
 use borrow.Author.Needs.{needs}

@@ -1,4 +1,4 @@
--- `sheets::lines::sheet_fits` meets its contract. The loop's invariant: the lines passed fit. Assumes nothing.
+-- `lines::sheet_fits` meets its contract. The loop's invariant: the lines passed fit. Assumes nothing.
 use native.Mathlib.Omega.{arith}
 use Rattle.lists.proofs.Bound.{product}
 use mathlib.Core.Path.{_≡_, refl}

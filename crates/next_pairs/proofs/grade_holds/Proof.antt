@@ -1,4 +1,4 @@
--- `sheets::pairs::grade_holds` meets its contract. Assumes nothing.
+-- `next_pairs::grade_holds` meets its contract. Assumes nothing.
 use Rattle.lines.proofs.Reading.{line-in}
 use Rattle.next_pairs.proofs.NextPairs.{line-row, vector-grades, grade-is}
 use Rattle.next_pairs.proofs.grade_holds.Statement.{statement}

@@ -1,4 +1,4 @@
--- `sheets::pairs::next_holds` meets its contract. Assumes nothing.
+-- `next_pairs::next_holds` meets its contract. Assumes nothing.
 use mathlib.Core.Path.{sym}
 use Rattle.lines.proofs.PairBytes.{length-front}
 use Rattle.next_pairs.proofs.NextPairs.{length-times, next-is}

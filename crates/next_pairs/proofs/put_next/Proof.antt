@@ -1,4 +1,4 @@
--- `sheets::pairs::put_next` meets its contract. Assumes nothing.
+-- `next_pairs::put_next` meets its contract. Assumes nothing.
 use native.Mathlib.Omega.{arith}
 use denote.Ref.{now}
 use lib.ListN.{length-set, length-take, length-drop}

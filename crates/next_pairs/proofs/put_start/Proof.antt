@@ -1,4 +1,4 @@
--- `sheets::pairs::put_start` meets its contract. Assumes nothing.
+-- `next_pairs::put_start` meets its contract. Assumes nothing.
 use native.Mathlib.Omega.{arith}
 use denote.Ref.{now}
 use lib.ListN.{length-set, length-take, length-drop}

@@ -1,4 +1,4 @@
--- `sheets::pairs::start_holds` meets its contract. Assumes nothing.
+-- `next_pairs::start_holds` meets its contract. Assumes nothing.
 use native.Mathlib.Omega.{arith}
 use mathlib.Core.Path.{sym}
 use denote.Ref.{now}

@@ -1,4 +1,4 @@
--- `expand::nexts` meets its contract. The loop's invariant: `NextsTo`, and lent arrays keep their lengths. Assumes nothing.
+-- `nexts::nexts` meets its contract. The loop's invariant: `NextsTo`, and lent arrays keep their lengths. Assumes nothing.
 use Prim.Native.Nat.{_<_}
 use mathlib.Core.Path.{_≡_, refl, _∙_}
 use lib.ListN.{length}

@@ -1,4 +1,4 @@
--- `sheets::pairs::bad_line` meets its contract. The loop's invariant: the lines passed hold. Assumes nothing.
+-- `pairs::bad_line` meets its contract. The loop's invariant: the lines passed hold. Assumes nothing.
 use native.Mathlib.Omega.{arith}
 use mathlib.Core.Path.{_≡_, refl}
 use mathlib.Core.Bool.{true}

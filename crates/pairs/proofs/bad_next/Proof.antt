@@ -1,4 +1,4 @@
--- `sheets::pairs::bad_next` meets its contract. The loop's invariant: the next pairs by the letters passed are on the sheet. Assumes nothing.
+-- `pairs::bad_next` meets its contract. The loop's invariant: the next pairs by the letters passed are on the sheet. Assumes nothing.
 use native.Mathlib.Omega.{arith}
 use mathlib.Core.Path.{_≡_, refl}
 use mathlib.Core.Bool.{true}

@@ -1,4 +1,4 @@
--- `sheets::pairs::line_holds` meets its contract. Assumes nothing.
+-- `pairs::line_holds` meets its contract. Assumes nothing.
 use Rattle.lists.proofs.Tests.{fell, held}
 use Rattle.pairs.proofs.Holding.{grade-fails, letters-hold}
 use borrow.Author.Needs.{needs}

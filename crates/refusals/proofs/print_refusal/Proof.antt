@@ -1,4 +1,4 @@
--- `printing::print_refusal` meets its contract.
+-- `refusals::print_refusal` meets its contract.
 -- Assumes nothing.
 use borrow.Author.Needs.{needs}
 use Rattle.refusals.proofs.Refusal.{refusal-room, refusal-printed}

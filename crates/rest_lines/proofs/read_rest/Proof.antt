@@ -1,4 +1,4 @@
--- `reading::read_rest` meets its contract. The loop's invariant: the lines that are left come to what all of them come to.
+-- `rest_lines::read_rest` meets its contract. The loop's invariant: the lines that are left come to what all of them come to.
 -- Assumes nothing.
 use borrow.Author.Needs.{needs}
 use mathlib.Core.Path.{_∙_}

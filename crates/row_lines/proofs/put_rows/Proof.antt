@@ -1,4 +1,4 @@
--- `printing::put_rows` meets its contract. The loop's invariant: the lines of s states are in front of the buffer.
+-- `row_lines::put_rows` meets its contract. The loop's invariant: the lines of s states are in front of the buffer.
 -- Assumes nothing.
 use borrow.Author.Needs.{needs}
 use mathlib.Core.Path.{refl}

@@ -1,4 +1,4 @@
--- `printing::text_fits` meets its contract: the room divided among the lines decides as the product does.
+-- `row_lines::text_fits` meets its contract: the room divided among the lines decides as the product does.
 -- Assumes nothing.
 use borrow.Author.Needs.{needs}
 use Rattle.row_lines.proofs.TextSize.{size-ends, size-none, size-short, size-by-line}

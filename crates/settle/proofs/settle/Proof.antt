@@ -1,4 +1,4 @@
--- `expand::settle` meets its contract. Assumes nothing.
+-- `settle::settle` meets its contract. Assumes nothing.
 use lib.ListN.{length-take, length-drop}
 use native.Mathlib.Omega.{arith}
 use Rattle.search.proofs.Found.{place-inside, place-small}

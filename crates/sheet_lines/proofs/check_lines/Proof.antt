@@ -1,4 +1,4 @@
--- `sheets::check_lines` meets its contract: each return is what the tests on its way make of `linesReply`. Assumes nothing.
+-- `sheet_lines::check_lines` meets its contract: each return is what the tests on its way make of `linesReply`. Assumes nothing.
 use Rattle.lists.proofs.Tests.{fell, held}
 use Rattle.sheet_lines.proofs.LineAnswers.{all-hold, grade-wrong, next-wrong}
 use borrow.Author.Needs.{needs}

@@ -1,4 +1,4 @@
--- `answers::finish` meets its contract. Assumes nothing.
+-- `shown::finish` meets its contract. Assumes nothing.
 use Rattle.shown.proofs.Printed.{built-refused, built-states, sound-shown}
 use borrow.Author.Needs.{needs}
 use Rattle.shown.proofs.finish.Statement.{statement}

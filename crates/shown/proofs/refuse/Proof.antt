@@ -1,4 +1,4 @@
--- `answers::refuse` meets its contract. Assumes nothing.
+-- `shown::refuse` meets its contract. Assumes nothing.
 use Rattle.shown.proofs.Printed.{refusal-answered}
 use borrow.Author.Needs.{needs}
 use Rattle.shown.proofs.refuse.Statement.{statement}

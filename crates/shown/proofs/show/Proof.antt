@@ -1,4 +1,4 @@
--- `answers::show` meets its contract. Assumes nothing.
+-- `shown::show` meets its contract. Assumes nothing.
 use Rattle.shown.proofs.Printed.{not-refused, table-answered}
 use Rattle.chart.proofs.Checked.{shaped}
 use borrow.Author.Needs.{needs}

@@ -1,4 +1,4 @@
--- `answers::size_of` meets its contract. Assumes nothing.
+-- `shown::size_of` meets its contract. Assumes nothing.
 use Rattle.shown.proofs.Printed.{size-known, size-refused}
 use borrow.Author.Needs.{needs}
 use Rattle.shown.proofs.size_of.Statement.{statement}

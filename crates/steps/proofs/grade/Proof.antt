@@ -1,4 +1,4 @@
--- `tables::grade` meets its contract: each return is what the tests on its way make of `gradeReply`.
+-- `steps::grade` meets its contract: each return is what the tests on its way make of `gradeReply`.
 -- Assumes nothing.
 use borrow.Author.Needs.{needs}
 use Rattle.lists.proofs.Tests.{fell, held}

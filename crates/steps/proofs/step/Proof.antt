@@ -1,4 +1,4 @@
--- `tables::step` meets its contract: each return is what the tests on its way make of `stepReply`.
+-- `steps::step` meets its contract: each return is what the tests on its way make of `stepReply`.
 -- Assumes nothing.
 use borrow.Author.Needs.{needs}
 use Rattle.lists.proofs.Tests.{fell, held}
