@@ -1,6 +1,5 @@
 use Rattle.chart.proofs.Checked.{shaped, fits-fine}
 use Rattle.backward.proofs.Before.{both-refused}
-use borrow.Author.Needs.{needs}
 use Rattle.backward.proofs.brzozowski.Statement.{statement}
 use Rattle.backward.proofs.brzozowski.Tie as tie
 use Rattle.backward.proofs.brzozowski.Reads as reads
@@ -9,13 +8,13 @@ use Rattle.backward.proofs.build_both.Reads as build-both-reads
 use Rattle.chart.proofs.check.Reads as check-reads
 
 check-requires : tie.Need-check-requires
-check-requires c κs = search needs
+check-requires c κs = search
 
 enum-known-why : tie.Need-enum-known-why
-enum-known-why c = search needs
+enum-known-why c = search
 
 enum-known-shape : tie.Need-enum-known-shape
-enum-known-shape c = search needs
+enum-known-shape c = search
 
 build-both-requires : tie.Need-build-both-requires
 build-both-requires c κs = (fits-fine _ (c .before .before .before .before .before .before .before .check .ensures) (c .before .before .before .before .before .shape .given .1), shaped _ (c .before .before .before .before .before .before .before .check .ensures) (c .before .before .before .before .before .shape .given .1))
@@ -24,16 +23,16 @@ returns : tie.Need-returns
 returns c = both-refused _ _ _ _ (c .before .before .before .check .ensures) (c .before .why .given .1)
 
 same-length : tie.Need-same-length
-same-length c = search needs
+same-length c = search
 
 same-length-2 : tie.Need-same-length-2
-same-length-2 c = search needs
+same-length-2 c = search
 
 same-length-3 : tie.Need-same-length-3
-same-length-3 c = search needs
+same-length-3 c = search
 
 same-length-4 : tie.Need-same-length-4
-same-length-4 c = search needs
+same-length-4 c = search
 
 returns-2 : tie.Need-returns-2
 returns-2 c = c .before .before .before .before .before .before .before .before .build-both .ensures

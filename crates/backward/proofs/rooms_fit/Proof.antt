@@ -2,7 +2,6 @@ use native.Mathlib.Omega.{arith}
 use mathlib.Core.Path.{sym}
 use Rattle.lists.proofs.Tests.{fell, held, both-not-right}
 use Rattle.rooms.proofs.Rooms.{roomy, first-decides}
-use borrow.Author.Needs.{needs}
 use Rattle.backward.proofs.rooms_fit.Statement.{statement}
 use Rattle.backward.proofs.rooms_fit.Tie as tie
 use Rattle.backward.proofs.rooms_fit.Reads as reads
@@ -10,7 +9,7 @@ use Rattle.backward.proofs.rooms_fit.Lts as lts
 use Rattle.rooms.proofs.room_fits.Reads as room-fits-reads
 
 room-fits-requires : tie.Need-room-fits-requires
-room-fits-requires c κs = search needs
+room-fits-requires c κs = omega arith
 
 returns : tie.Need-returns
 returns c = sym (both-not-right _ _ (fell (c .before .room-fits .ensures) (c .if1 .taken)))

@@ -1,6 +1,5 @@
 -- `card::cap` meets its contract: each return is what the tests on its way make of `capReply`.
 -- Assumes nothing.
-use borrow.Author.Needs.{needs}
 use Rattle.lists.proofs.Tests.{fell, held}
 use Rattle.chart.proofs.Checked.{shaped}
 use Rattle.card.proofs.Caps.{cap-refused, cap-table, cap-is}
@@ -8,13 +7,13 @@ use Rattle.card.proofs.cap.Statement.{statement}
 use Rattle.card.proofs.cap.Tie as tie
 
 check-requires : tie.Need-check-requires
-check-requires c κs = search needs
+check-requires c κs = search
 
 enum-known-why : tie.Need-enum-known-why
-enum-known-why c = search needs
+enum-known-why c = search
 
 enum-known-shape : tie.Need-enum-known-shape
-enum-known-shape c = search needs
+enum-known-shape c = search
 
 table-fits-chart-requires : tie.Need-table-fits-chart-requires
 table-fits-chart-requires c κs = shaped _ (c .before .before .before .check .ensures) (c .before .shape .given .1)

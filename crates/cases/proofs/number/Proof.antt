@@ -1,22 +1,21 @@
 -- `cases::number` meets its contract. Assumes nothing.
-use borrow.Author.Needs.{needs}
 use Rattle.cases.proofs.number.Statement.{statement}
 use Rattle.cases.proofs.number.Tie as tie
 
 slice-aggregate-read-full : tie.Need-slice-aggregate-read-full
-slice-aggregate-read-full c = search needs
+slice-aggregate-read-full c = search
 
 read-full-requires : tie.Need-read-full-requires
-read-full-requires c κs = search needs
+read-full-requires c κs = search
 
 returns : tie.Need-returns
-returns c = search needs
+returns c = search
 
 number-in-requires : tie.Need-number-in-requires
-number-in-requires c κs = search needs
+number-in-requires c κs = search
 
 returns-2 : tie.Need-returns-2
-returns-2 c = search needs
+returns-2 c = search
 
 pub number-spec : {M : Type 1} → statement M
 number-spec =

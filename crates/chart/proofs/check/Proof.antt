@@ -4,7 +4,6 @@ use mathlib.Core.List.{List}
 use Prim.Native.Nat.{ℕ}
 use native.Mathlib.Omega.{arith}
 use denote.Ref.{now}
-use borrow.Author.Needs.{needs}
 use borrow.Author.Tests.{not-true, not-false}
 use Rattle.replies.specs.declared.Shape.{Shape}
 use Rattle.replies.specs.Replies.{shapeSaid}
@@ -41,31 +40,31 @@ returns : tie.Need-returns
 returns c = reply-head _ (c .if1 .taken)
 
 shared-slice-read-k : tie.Need-shared-slice-read-k
-shared-slice-read-k c = search needs
+shared-slice-read-k c = omega arith
 
 cast-k : tie.Need-cast-k
 cast-k c = omega (arith, c .shared-slice-known2 .given 0)
 
 shared-slice-read-e : tie.Need-shared-slice-read-e
-shared-slice-read-e c = search needs
+shared-slice-read-e c = omega arith
 
 cast-e : tie.Need-cast-e
 cast-e c = omega (arith, c .shared-slice-known3 .given 1)
 
 shared-slice-read-n : tie.Need-shared-slice-read-n
-shared-slice-read-n c = search needs
+shared-slice-read-n c = omega arith
 
 cast-n : tie.Need-cast-n
 cast-n c = omega (arith, c .shared-slice-known4 .given 2)
 
 shared-slice-read-m : tie.Need-shared-slice-read-m
-shared-slice-read-m c = search needs
+shared-slice-read-m c = search
 
 cast-m : tie.Need-cast-m
 cast-m c = omega (arith, c .shared-slice-known5 .given 3)
 
 sizes-fit-requires : tie.Need-sizes-fit-requires
-sizes-fit-requires c κs = search needs
+sizes-fit-requires c κs = search
 
 returns-2 : tie.Need-returns-2
 unfolding headFits
@@ -79,7 +78,7 @@ returns-3 : tie.Need-returns-3
 returns-3 c = reply-short (headed (c .before .before .before)) (omega (arith, size-is _ _ (shape-is (c .before .before))))
 
 shared-slice-read-grades-fit : tie.Need-shared-slice-read-grades-fit
-shared-slice-read-grades-fit c = search needs
+shared-slice-read-grades-fit c = omega arith
 
 grades-fit-requires : tie.Need-grades-fit-requires
 grades-fit-requires c κs = (refl, size-is _ _ (shape-is (c .before .before .before)), c .before .if3 .left)
@@ -91,10 +90,10 @@ first-broken-requires : tie.Need-first-broken-requires
 first-broken-requires c κs = shaped-by (graded c)
 
 enum-told : tie.Need-enum-told
-enum-told c = search needs
+enum-told c = search
 
 enum-known-law : tie.Need-enum-known-law
-enum-known-law c = search needs
+enum-known-law c = search
 
 returns-5 : tie.Need-returns-5
 returns-5 c = reply-fine (graded (c .before .before .before)) (rw (c .enum-told .given .1) at (c .before .before .first-broken .ensures))

@@ -1,40 +1,40 @@
 -- `dues::behind` meets its contract: one more line of the kind, or the first of the next.
 -- Assumes nothing.
-use borrow.Author.Needs.{needs}
+use native.Mathlib.Omega.{arith}
 use Rattle.dues.proofs.Dues.{behind-line, behind-last}
 use Rattle.dues.proofs.behind.Statement.{statement}
 use Rattle.dues.proofs.behind.Tie as tie
 
 add-line : tie.Need-add-line
-add-line c = search needs
+add-line c = omega arith
 
 mul-pos : tie.Need-mul-pos
-mul-pos c = search needs
+mul-pos c = omega arith
 
 add-pos : tie.Need-add-pos
-add-pos c = search needs
+add-pos c = omega arith
 
 add-pos-2 : tie.Need-add-pos-2
-add-pos-2 c = search needs
+add-pos-2 c = omega arith
 
 add-at : tie.Need-add-at
-add-at c = search needs
+add-at c = omega arith
 
 sub-t11 : tie.Need-sub-t11
-sub-t11 c = search needs
+sub-t11 c = omega arith
 
 returns : tie.Need-returns
 returns c =
     let s = c .before .before .before .before .before .before .before .before .args in
-    behind-line _ (s .cursor) (s .due) (search needs) (search needs)
+    behind-line _ (s .cursor) (s .due) (search) (search)
 
 rule-of-requires : tie.Need-rule-of-requires
-rule-of-requires c κs = search needs
+rule-of-requires c κs = omega arith
 
 returns-2 : tie.Need-returns-2
 returns-2 c =
     let s = c .before .before .before .before .before .before .before .before .args in
-    behind-last _ (s .cursor) (s .due) (search needs) (search needs) (c .rule-of .result) (search needs)
+    behind-last _ (s .cursor) (s .due) (search) (search) (c .rule-of .result) (search)
 
 pub behind-spec : {M : Type 1} → statement M
 behind-spec =

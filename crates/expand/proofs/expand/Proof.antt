@@ -5,7 +5,6 @@ use lib.ListN.{length-take, length-drop}
 use native.Mathlib.Omega.{arith}
 use denote.Ref.{now}
 use Rattle.expand.proofs.Growing.{expand-from, row-within, copy-inside, copy-is, copy-asks, copy-long}
-use borrow.Author.Needs.{needs}
 use Rattle.expand.proofs.expand.Statement.{statement}
 use Rattle.expand.proofs.expand.Tie as tie
 use Rattle.expand.proofs.expand.Reads as reads
@@ -29,7 +28,7 @@ mul-at-2 : tie.Need-mul-at-2
 mul-at-2 c = omega (arith, row-small (c .before .before .before .before .before .before .before .before .before .before .before .pre))
 
 array-share-prefix-copy : tie.Need-array-share-prefix-copy
-array-share-prefix-copy c = search needs
+array-share-prefix-copy c = omega arith
 
 slice-aggregate-write-row : tie.Need-slice-aggregate-write-row
 slice-aggregate-write-row c = sym (copy-long (c .before .before .before .before .before .before .before .before .before .before .before .before .pre) _ (c .before .before .copy-of .ensures))
@@ -41,25 +40,25 @@ part-write-row-start : tie.Need-part-write-row-start
 part-write-row-start c = omega (arith, row-within (c .before .before .before .before .before .before .before .before .before .before .before .before .pre))
 
 part-write-row-end : tie.Need-part-write-row-end
-part-write-row-end c = search needs
+part-write-row-end c = omega arith
 
 write-row-requires : tie.Need-write-row-requires
 write-row-requires c κs = (copy-asks (c .before .before .before .before .before .before .before .before .before .before .before .before .before .before .before .before .before .pre) _ (c .before .before .before .before .before .before .before .copy-of .ensures), simp (length-take, length-drop) (omega (arith, row-within (c .before .before .before .before .before .before .before .before .before .before .before .before .before .before .before .before .before .pre))))
 
 same-length : tie.Need-same-length
-same-length c = search needs
+same-length c = search
 
 same-length-2 : tie.Need-same-length-2
-same-length-2 c = search needs
+same-length-2 c = search
 
 same-length-3 : tie.Need-same-length-3
-same-length-3 c = search needs
+same-length-3 c = search
 
 same-length-4 : tie.Need-same-length-4
-same-length-4 c = search needs
+same-length-4 c = search
 
 same-length-5 : tie.Need-same-length-5
-same-length-5 c = search needs
+same-length-5 c = search
 
 returns : tie.Need-returns
 returns c = let b = c .before .before .before .before .before .before .before .before .before .before .before .before .before .before .before .before .before .before .before .before .before .before .before .before .before .before .before .before in expand-from _ _ _ _ _ (now (b .args .table)) (c .before .before .before .before .before .before .before .before .before .before .write-row .last .1 .1 .1 .1 .1 .0) _ _ _ _ (c .before .before .before .before .before .before .before .before .before .before .write-row .result) (row-within (b .pre)) (copy-is (b .pre) _ (c .before .before .before .before .before .before .before .before .before .before .before .before .before .before .before .before .before .before .copy-of .ensures)) (c .before .before .before .before .before .before .before .before .before .before .write-row .ensures)

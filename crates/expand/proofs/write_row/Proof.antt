@@ -6,7 +6,6 @@ use native.Mathlib.Omega.{arith}
 use denote.Ref.{now}
 use borrow.Rule.Slice.PartMut.{same-len-mid}
 use Rattle.expand.proofs.Growing.{row-from}
-use borrow.Author.Needs.{needs}
 use Rattle.expand.proofs.write_row.Statement.{statement}
 use Rattle.expand.proofs.write_row.Tie as tie
 use Rattle.expand.proofs.write_row.Reads as reads
@@ -18,7 +17,7 @@ grade-by-requires : tie.Need-grade-by-requires
 grade-by-requires c κs = (c .before .before .before .before .before .before .before .before .pre .0 .ready .sized, c .before .before .before .before .before .before .before .before .pre .0 .value)
 
 slice-write-row : tie.Need-slice-write-row
-slice-write-row c = search needs
+slice-write-row c = omega arith
 
 sub-nexts : tie.Need-sub-nexts
 sub-nexts c = simp length-set (omega (arith, c .before .before .before .before .before .before .before .before .before .pre .1))
@@ -27,7 +26,7 @@ part-nexts-start : tie.Need-part-nexts-start
 part-nexts-start c = simp length-set (omega (arith, c .before .before .before .before .before .before .before .before .before .pre .1))
 
 part-nexts-end : tie.Need-part-nexts-end
-part-nexts-end c = search needs
+part-nexts-end c = omega arith
 
 nexts-requires : tie.Need-nexts-requires
 nexts-requires c κs = (c .before .before .before .before .before .before .before .before .before .before .before .before .before .before .pre .0, simp (length-take, length-drop, length-set) (omega (arith, c .before .before .before .before .before .before .before .before .before .before .before .before .before .before .pre .1)))
@@ -36,16 +35,16 @@ same-length : tie.Need-same-length
 same-length c = let row = set (now (c .before .before .before .before .before .before .before .before .before .before .before .before .before .before .before .before .before .before .before .before .before .before .before .before .before .args .row)) 0 (c .before .before .before .before .before .before .before .before .before .before .before .before .before .before .before .before .grade-by .result) in same-len-mid 1 (length row - 1) row (c .before .before .before .before .before .before .before .before .before .before .nexts .last .1 .1 .1 .1 .1 .0) (c .before .before .before .before .before .before .before .before .before .before .nexts .kept .1 .1 .1 .1 .1 .0) ∙ simp length-set
 
 same-length-2 : tie.Need-same-length-2
-same-length-2 c = search needs
+same-length-2 c = search
 
 same-length-3 : tie.Need-same-length-3
-same-length-3 c = search needs
+same-length-3 c = search
 
 same-length-4 : tie.Need-same-length-4
-same-length-4 c = search needs
+same-length-4 c = search
 
 same-length-5 : tie.Need-same-length-5
-same-length-5 c = search needs
+same-length-5 c = search
 
 returns : tie.Need-returns
 returns c = let b = c .before .before .before .before .before .before .before .before .before .before .before .before .before .before .before .before .before .before .before .before .before .before .before .before .before in row-from _ _ _ _ _ (now (b .args .row)) (c .before .before .before .before .before .before .before .before .before .before .nexts .last .1 .1 .1 .1 .1 .0) _ _ _ (c .before .before .before .before .before .before .before .before .before .before .before .before .before .before .before .before .grade-by .result) (c .before .before .before .before .before .before .before .before .before .before .nexts .result) (b .pre .1) (c .before .before .before .before .before .before .before .before .before .before .before .before .before .before .before .before .grade-by .ensures) (c .before .before .before .before .before .before .before .before .before .before .nexts .ensures)

@@ -1,22 +1,21 @@
 -- `frames::frame_byte` meets its contract: each arm is the byte of its place.
 -- Assumes nothing.
-use borrow.Author.Needs.{needs}
 use native.Mathlib.Omega.{arith}
 use Rattle.frames.proofs.FrameWritten.{byte-kind, byte-high, byte-low, byte-rest}
 use Rattle.frames.proofs.frame_byte.Statement.{statement}
 use Rattle.frames.proofs.frame_byte.Tie as tie
 
 cast-result : tie.Need-cast-result
-cast-result c = search needs
+cast-result c = omega arith
 
 cast-result-2 : tie.Need-cast-result-2
-cast-result-2 c = search needs
+cast-result-2 c = omega arith
 
 sub-result : tie.Need-sub-result
-sub-result c = search needs
+sub-result c = omega arith
 
 shared-slice-read-result : tie.Need-shared-slice-read-result
-shared-slice-read-result c = search needs
+shared-slice-read-result c = omega arith
 
 returns : tie.Need-returns
 returns c = byte-kind (c .before .args .kind) (c .before .args .payload .now) (c .before .args .j) (c .match .keys1)

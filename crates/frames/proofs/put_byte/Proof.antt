@@ -1,20 +1,21 @@
 -- `frames::put_byte` meets its contract.
 -- Assumes nothing.
+use native.Mathlib.Omega.{arith}
 use borrow.Author.Needs.{needs}
 use Rattle.frames.proofs.put_byte.Statement.{statement}
 use Rattle.frames.proofs.put_byte.Tie as tie
 
 hex-requires : tie.Need-hex-requires
-hex-requires c κs = search needs
+hex-requires c κs = omega arith
 
 slice-write-out : tie.Need-slice-write-out
-slice-write-out c = search needs
+slice-write-out c = omega arith
 
 hex-requires-2 : tie.Need-hex-requires-2
-hex-requires-2 c κs = search needs
+hex-requires-2 c κs = omega arith
 
 add-out : tie.Need-add-out
-add-out c = search needs
+add-out c = omega arith
 
 slice-write-out-2 : tie.Need-slice-write-out-2
 slice-write-out-2 c = search needs

@@ -19,37 +19,37 @@ abbrev μ-loop : tie.MeasureT-loop
 μ-loop kind payload out₀ j₀ out j = 3 + length payload - j
 
 loop-holds : tie.Need-loop-holds Inv-loop μ-loop
-loop-holds c = (c .before .before .pre, search needs, refl, begun-none _ _)
+loop-holds c = (c .before .before .pre, omega arith, refl, begun-none _ _)
 
 add-loop : tie.Need-add-loop Inv-loop μ-loop
-add-loop c = search needs
+add-loop c = omega arith
 
 mul-put-byte : tie.Need-mul-put-byte Inv-loop μ-loop
-mul-put-byte c = search needs
+mul-put-byte c = omega arith
 
 frame-byte-requires : tie.Need-frame-byte-requires Inv-loop μ-loop
-frame-byte-requires c κs = search needs
+frame-byte-requires c κs = search
 
 put-byte-requires : tie.Need-put-byte-requires Inv-loop μ-loop
-put-byte-requires c κs = search needs
+put-byte-requires c κs = omega arith
 
 add-j : tie.Need-add-j Inv-loop μ-loop
-add-j c = search needs
+add-j c = omega arith
 
 loop-less : tie.Need-loop-less Inv-loop μ-loop
-loop-less c = search needs
+loop-less c = omega arith
 
 loop-again : tie.Need-loop-again Inv-loop μ-loop
 loop-again c =
     let l = c .before .before .before .before .before .before .loop in
     let f = c .before .before .put-byte in
-    (l .inv .0, search needs, f .kept .0 ∙ l .inv .2, f .ensures ∙ put-pair _ _ _ (l .inv .0) _ (l .j) (l .inv .3) _ (search needs) (c .before .before .before .frame-byte .ensures))
+    (l .inv .0, omega arith, f .kept .0 ∙ l .inv .2, f .ensures ∙ put-pair _ _ _ (l .inv .0) _ (l .j) (l .inv .3) _ (search) (c .before .before .before .frame-byte .ensures))
 
 mul-out : tie.Need-mul-out Inv-loop μ-loop
-mul-out c = search needs
+mul-out c = omega arith
 
 slice-write-out : tie.Need-slice-write-out Inv-loop μ-loop
-slice-write-out c = search needs
+slice-write-out c = omega arith
 
 same-length : tie.Need-same-length Inv-loop μ-loop
 same-length c = search needs

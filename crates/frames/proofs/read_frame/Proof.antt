@@ -1,6 +1,5 @@
 -- `frames::read_frame` meets its contract.
 -- Assumes nothing.
-use borrow.Author.Needs.{needs}
 use mathlib.Core.Path.{refl, sym}
 use Rattle.lists.proofs.Tests.{fell, held}
 use Rattle.frames.proofs.FrameRead.{frame-digits}
@@ -8,16 +7,16 @@ use Rattle.frames.proofs.read_frame.Statement.{statement}
 use Rattle.frames.proofs.read_frame.Tie as tie
 
 frame-fits-requires : tie.Need-frame-fits-requires
-frame-fits-requires c κs = search needs
+frame-fits-requires c κs = search
 
 returns : tie.Need-returns
 returns c = (sym (fell (c .before .frame-fits .ensures) (c .if1 .taken)), refl)
 
 put-payload-requires : tie.Need-put-payload-requires
-put-payload-requires c κs = record { frame = search needs; digits = frame-digits _ _ _ _ (held (c .before .before .frame-fits .ensures) (c .before .if1 .left)) }
+put-payload-requires c κs = record { frame = search; digits = frame-digits _ _ _ _ (held (c .before .before .frame-fits .ensures) (c .before .if1 .left)) }
 
 same-length : tie.Need-same-length
-same-length c = search needs
+same-length c = search
 
 returns-2 : tie.Need-returns-2
 returns-2 c =

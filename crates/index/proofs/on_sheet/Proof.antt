@@ -6,7 +6,6 @@ use Rattle.marks.proofs.ChainLaws.{next-low}
 use native.Mathlib.Omega.{arith}
 use Rattle.lines.proofs.Reading.{line-in}
 use Rattle.index.proofs.Looking.{Looking, looking-start, looking-next, found, nowhere}
-use borrow.Author.Needs.{needs}
 use Rattle.index.proofs.on_sheet.Statement.{statement}
 use Rattle.index.proofs.on_sheet.Tie as tie
 
@@ -17,7 +16,7 @@ abbrev μ-loop : tie.MeasureT-loop
 μ-loop chart shape sheet lines heads links marks pair number p₀ p = p
 
 mark-requires : tie.Need-mark-requires Inv-loop μ-loop
-mark-requires c κs = search needs
+mark-requires c κs = search
 
 last-with-requires : tie.Need-last-with-requires Inv-loop μ-loop
 last-with-requires c κs = c .before .before .before .before .before .before .before .pre .0 .chained .headed
@@ -26,7 +25,7 @@ loop-holds : tie.Need-loop-holds Inv-loop μ-loop
 loop-holds c = let b = c .before .before .before .before .before .before .before .before in looking-start (b .pre .0) (now (b .args .pair)) (c .before .mark .ensures) (c .last-with .ensures)
 
 sub-i : tie.Need-sub-i Inv-loop μ-loop
-sub-i c = search needs
+sub-i c = omega arith
 
 is-pair-requires : tie.Need-is-pair-requires Inv-loop μ-loop
 is-pair-requires c κs = let b = c .before .before .before .before .before .before .before .before .before .before in let i : c .before .loop .p - 1 < b .args .lines = omega (arith, c .before .loop .inv .on .low) in (line-in (b .pre .0 .linesIn) i, omega (arith, b .pre .0 .chained .marked), b .pre .0 .numbered _ i, c .before .before .before .mark .ensures, b .pre .1)

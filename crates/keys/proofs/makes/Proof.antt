@@ -1,8 +1,8 @@
+use native.Mathlib.Omega.{arith}
 use denote.Ref.{now}
 use mathlib.Core.Path.{refl, sym, _∙_}
 use Rattle.kinds.proofs.Keys.{made-long, made-front}
 use Rattle.kinds.proofs.KindLaws.{as-grades}
-use borrow.Author.Needs.{needs}
 use Rattle.keys.proofs.makes.Statement.{statement}
 use Rattle.keys.proofs.makes.Tie as tie
 use Rattle.keys.proofs.makes.Reads as reads
@@ -11,13 +11,13 @@ use Rattle.marks.proofs.same.Reads as same-reads
 use Rattle.vectors.proofs.times.row_times.Reads as row-times-reads
 
 slice-aggregate-row-times : tie.Need-slice-aggregate-row-times
-slice-aggregate-row-times c = search needs
+slice-aggregate-row-times c = search
 
 row-times-requires : tie.Need-row-times-requires
 row-times-requires c κs = let b = c .before .before .before .before in (b .pre .0, b .pre .1, as-grades (b .pre .2) refl, b .pre .0 .sizes .n-high)
 
 array-share-prefix-made : tie.Need-array-share-prefix-made
-array-share-prefix-made c = search needs
+array-share-prefix-made c = omega arith
 
 slice-aggregate-same : tie.Need-slice-aggregate-same
 slice-aggregate-same c = sym (made-long (c .before .before .before .before .before .before .before .pre .0) (c .before .before .before .before .before .before .before .args .x) (now (c .before .before .before .before .before .before .before .args .v)) _ (c .before .before .row-times .ensures))

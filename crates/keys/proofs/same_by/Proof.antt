@@ -2,7 +2,6 @@ use denote.Ref.{now}
 use mathlib.Core.Path.{sym, ap, _∙_}
 use Rattle.paper.specs.Lists.{sameList}
 use Rattle.kinds.proofs.KindLaws.{keyed-is, own-key, own-size, reduced-asks}
-use borrow.Author.Needs.{needs}
 use Rattle.keys.proofs.same_by.Statement.{statement}
 use Rattle.keys.proofs.same_by.Tie as tie
 use Rattle.keys.proofs.same_by.Reads as reads
@@ -12,7 +11,7 @@ use Rattle.keys.proofs.same_key.Reads as same-key-reads
 use Rattle.marks.proofs.same.Reads as same-reads
 
 keyed-requires : tie.Need-keyed-requires
-keyed-requires c κs = search needs
+keyed-requires c κs = search
 
 same-key-requires : tie.Need-same-key-requires
 same-key-requires c κs = let b = c .before .before .before .before .before in reduced-asks (b .pre .0) (keyed-is _ (sym (c .before .keyed .ensures) ∙ c .if1 .taken)) (b .pre .1) (b .pre .2)

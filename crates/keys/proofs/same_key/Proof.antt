@@ -1,3 +1,4 @@
+use native.Mathlib.Omega.{arith}
 use Rattle.kinds.proofs.Keys.{grade-differs, letters-decide}
 use borrow.Author.Needs.{needs}
 use Rattle.keys.proofs.same_key.Statement.{statement}
@@ -8,19 +9,19 @@ use Rattle.keys.proofs.same_letters.Reads as same-letters-reads
 use Rattle.vectors.proofs.times.end_grade.Reads as end-grade-reads
 
 mul-last : tie.Need-mul-last
-mul-last c = search needs
+mul-last c = omega arith
 
 end-grade-requires : tie.Need-end-grade-requires
 end-grade-requires c κs = search needs
 
 shared-slice-read-if1 : tie.Need-shared-slice-read-if1
-shared-slice-read-if1 c = search needs
+shared-slice-read-if1 c = omega arith
 
 returns : tie.Need-returns
 returns c = grade-differs (c .before .before .before .before .before .before .before .pre .0) _ _ (c .before .before .before .before .before .before .before .pre .2) (c .before .before .end-grade .ensures .is) (c .if1 .taken)
 
 same-letters-requires : tie.Need-same-letters-requires
-same-letters-requires c κs = search needs
+same-letters-requires c κs = search
 
 returns-2 : tie.Need-returns-2
 returns-2 c = letters-decide (c .before .before .before .before .before .before .before .before .pre .0) _ _ (c .before .before .before .before .before .before .before .before .pre .2) (c .before .before .before .end-grade .ensures .is) (c .before .if1 .left) (c .same-letters .ensures)

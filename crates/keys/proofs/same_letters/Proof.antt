@@ -13,7 +13,6 @@ use Rattle.lists.proofs.Tests.{all-more, all-fails}
 use Rattle.paper.specs.Lists.{allBelow}
 use Rattle.kinds.specs.Kinds.{letterSame}
 use Rattle.kinds.proofs.Keys.{letter-part}
-use borrow.Author.Needs.{needs}
 use Rattle.keys.proofs.same_letters.Statement.{statement}
 use Rattle.keys.proofs.same_letters.Tie as tie
 use Rattle.keys.proofs.same_letters.Reads as reads
@@ -28,34 +27,34 @@ abbrev μ-loop : tie.MeasureT-loop
 
 loop-holds : tie.Need-loop-holds Inv-loop μ-loop
 unfolding allBelow
-loop-holds c = (search needs, sym (zero-mul _), refl)
+loop-holds c = (omega arith, sym (zero-mul _), refl)
 
 add-to : tie.Need-add-to Inv-loop μ-loop
-add-to c = let a = c .before .before .before .before .before .before .before .args in let l = c .before .before .before .loop in omega (arith, letter-inside (l .x) (a .shape .letters) (a .shape .n) (l .at) (length (now (a .key))) (l .inv .1) (search needs) (omega (arith, c .before .before .before .before .before .before .before .pre .2)))
+add-to c = let a = c .before .before .before .before .before .before .before .args in let l = c .before .before .before .loop in omega (arith, letter-inside (l .x) (a .shape .letters) (a .shape .n) (l .at) (length (now (a .key))) (l .inv .1) (search) (omega (arith, c .before .before .before .before .before .before .before .pre .2)))
 
 sub-makes : tie.Need-sub-makes Inv-loop μ-loop
-sub-makes c = search needs
+sub-makes c = omega arith
 
 part-makes-start : tie.Need-part-makes-start Inv-loop μ-loop
-part-makes-start c = search needs
+part-makes-start c = omega arith
 
 part-makes-end : tie.Need-part-makes-end Inv-loop μ-loop
-part-makes-end c = let a = c .before .before .before .before .before .before .before .args in let l = c .before .before .before .loop in omega (arith, letter-inside (l .x) (a .shape .letters) (a .shape .n) (l .at) (length (now (a .key))) (l .inv .1) (search needs) (omega (arith, c .before .before .before .before .before .before .before .pre .2)))
+part-makes-end c = let a = c .before .before .before .before .before .before .before .args in let l = c .before .before .before .loop in omega (arith, letter-inside (l .x) (a .shape .letters) (a .shape .n) (l .at) (length (now (a .key))) (l .inv .1) (search) (omega (arith, c .before .before .before .before .before .before .before .pre .2)))
 
 makes-requires : tie.Need-makes-requires Inv-loop μ-loop
-makes-requires c κs = let l = c .before .before .before .before .loop in (c .before .before .before .before .before .before .before .before .pre .0, search needs, c .before .before .before .before .before .before .before .before .pre .1, part-long (c .before .before .before .before .before .before .before .before .pre .0) (now (c .before .before .before .before .before .before .before .before .args .v)) (now (c .before .before .before .before .before .before .before .before .args .key)) (c .before .before .before .before .before .before .before .before .pre .2) (l .x) (l .at) (l .inv .1) (search needs))
+makes-requires c κs = let l = c .before .before .before .before .loop in (c .before .before .before .before .before .before .before .before .pre .0, search, c .before .before .before .before .before .before .before .before .pre .1, part-long (c .before .before .before .before .before .before .before .before .pre .0) (now (c .before .before .before .before .before .before .before .before .args .v)) (now (c .before .before .before .before .before .before .before .before .args .key)) (c .before .before .before .before .before .before .before .before .pre .2) (l .x) (l .at) (l .inv .1) (search))
 
 returns : tie.Need-returns Inv-loop μ-loop
-returns c = let l = c .before .before .before .before .before .before .loop in sym (all-fails _ _ (l .x) (search needs) (fell (letter-part (c .before .before .before .before .before .before .before .before .before .before .pre .0) _ _ (c .before .before .before .before .before .before .before .before .before .before .pre .2) (l .x) (l .at) (l .inv .1) (c .before .makes .ensures)) (c .if2 .taken)))
+returns c = let l = c .before .before .before .before .before .before .loop in sym (all-fails _ _ (l .x) (search) (fell (letter-part (c .before .before .before .before .before .before .before .before .before .before .pre .0) _ _ (c .before .before .before .before .before .before .before .before .before .before .pre .2) (l .x) (l .at) (l .inv .1) (c .before .makes .ensures)) (c .if2 .taken)))
 
 add-x : tie.Need-add-x Inv-loop μ-loop
-add-x c = search needs
+add-x c = omega arith
 
 loop-less : tie.Need-loop-less Inv-loop μ-loop
-loop-less c = search needs
+loop-less c = omega arith
 
 loop-again : tie.Need-loop-again Inv-loop μ-loop
-loop-again c = let l = c .before .before .before .before .before .before .loop in (search needs, rw (add-one, suc-mul, l .inv .1), all-more _ _ (l .inv .2) (held (letter-part (c .before .before .before .before .before .before .before .before .before .before .pre .0) _ _ (c .before .before .before .before .before .before .before .before .before .before .pre .2) (l .x) (l .at) (l .inv .1) (c .before .makes .ensures)) (c .if2 .left)))
+loop-again c = let l = c .before .before .before .before .before .before .loop in (omega arith, rw (add-one, suc-mul, l .inv .1), all-more _ _ (l .inv .2) (held (letter-part (c .before .before .before .before .before .before .before .before .before .before .pre .0) _ _ (c .before .before .before .before .before .before .before .before .before .before .pre .2) (l .x) (l .at) (l .inv .1) (c .before .makes .ensures)) (c .if2 .left)))
 
 returns-2 : tie.Need-returns-2 Inv-loop μ-loop
 returns-2 c = let l = c .before .before .loop in let e : l .x ≡ c .before .before .before .before .before .before .args .shape .letters = omega arith in sym (rw e at (l .inv .2))

@@ -1,14 +1,13 @@
 -- `lace::grade_number` meets its contract: each arm is the number of its case. Assumes nothing.
-use borrow.Author.Needs.{needs}
 use Rattle.lace.proofs.Numbers.{grade-given, grade-refused}
 use Rattle.lace.proofs.grade_number.Statement.{statement}
 use Rattle.lace.proofs.grade_number.Tie as tie
 
 enum-known-answer : tie.Need-enum-known-answer
-enum-known-answer c = search needs
+enum-known-answer c = search
 
 enum-told : tie.Need-enum-told
-enum-told c = search needs
+enum-told c = search
 
 returns : tie.Need-returns
 returns c = grade-given _ _ (c .before .answer .given .1)

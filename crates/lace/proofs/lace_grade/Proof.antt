@@ -1,15 +1,14 @@
 -- `lace::lace_grade` meets its contract: the number of what `steps::grade` answers. Assumes nothing.
-use borrow.Author.Needs.{needs}
 use mathlib.Core.Path.{ap, _∙_}
 use Rattle.paper.specs.Tables.{gradeCode}
 use Rattle.lace.proofs.lace_grade.Statement.{statement}
 use Rattle.lace.proofs.lace_grade.Tie as tie
 
 grade-requires : tie.Need-grade-requires
-grade-requires c κs = search needs
+grade-requires c κs = search
 
 grade-number-requires : tie.Need-grade-number-requires
-grade-number-requires c κs = search needs
+grade-number-requires c κs = search
 
 returns : tie.Need-returns
 returns c = c .grade-number .ensures ∙ ap gradeCode (c .before .grade .ensures)

@@ -1,15 +1,14 @@
 -- `lace::lace_step` meets its contract: the number of what `steps::step` answers. Assumes nothing.
-use borrow.Author.Needs.{needs}
 use mathlib.Core.Path.{ap, _∙_}
 use Rattle.paper.specs.Tables.{stepCode}
 use Rattle.lace.proofs.lace_step.Statement.{statement}
 use Rattle.lace.proofs.lace_step.Tie as tie
 
 step-requires : tie.Need-step-requires
-step-requires c κs = search needs
+step-requires c κs = search
 
 step-number-requires : tie.Need-step-number-requires
-step-number-requires c κs = search needs
+step-number-requires c κs = search
 
 returns : tie.Need-returns
 returns c = c .step-number .ensures ∙ ap stepCode (c .before .step .ensures)

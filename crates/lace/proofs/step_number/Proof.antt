@@ -1,17 +1,16 @@
 -- `lace::step_number` meets its contract: each arm is the number of its case. Assumes nothing.
-use borrow.Author.Needs.{needs}
 use Rattle.lace.proofs.Numbers.{step-given, step-letter, step-other}
 use Rattle.lace.proofs.step_number.Statement.{statement}
 use Rattle.lace.proofs.step_number.Tie as tie
 
 enum-known-answer : tie.Need-enum-known-answer
-enum-known-answer c = search needs
+enum-known-answer c = search
 
 enum-known-answer-2 : tie.Need-enum-known-answer-2
-enum-known-answer-2 c = search needs
+enum-known-answer-2 c = search
 
 enum-told : tie.Need-enum-told
-enum-told c = search needs
+enum-told c = search
 
 returns : tie.Need-returns
 returns c = step-given _ _ (c .before .answer .given .1)

@@ -1,35 +1,34 @@
 -- `law_tests::distributes` meets its contract. Assumes nothing.
 use Rattle.law_tests.proofs.LawTests.{distributes-passes, distributes-fails}
-use borrow.Author.Needs.{needs}
 use Rattle.law_tests.proofs.distributes.Statement.{statement}
 use Rattle.law_tests.proofs.distributes.Tie as tie
 
 join-requires : tie.Need-join-requires
-join-requires c κs = search needs
+join-requires c κs = search
 
 prod-requires : tie.Need-prod-requires
-prod-requires c κs = search needs
+prod-requires c κs = search
 
 prod-requires-2 : tie.Need-prod-requires-2
-prod-requires-2 c κs = search needs
+prod-requires-2 c κs = search
 
 join-requires-2 : tie.Need-join-requires-2
-join-requires-2 c κs = search needs
+join-requires-2 c κs = search
 
 prod-requires-3 : tie.Need-prod-requires-3
-prod-requires-3 c κs = search needs
+prod-requires-3 c κs = search
 
 prod-requires-4 : tie.Need-prod-requires-4
-prod-requires-4 c κs = search needs
+prod-requires-4 c κs = search
 
 join-requires-3 : tie.Need-join-requires-3
-join-requires-3 c κs = search needs
+join-requires-3 c κs = search
 
 prod-requires-5 : tie.Need-prod-requires-5
-prod-requires-5 c κs = search needs
+prod-requires-5 c κs = search
 
 prod-requires-6 : tie.Need-prod-requires-6
-prod-requires-6 c κs = search needs
+prod-requires-6 c κs = search
 
 returns : tie.Need-returns
 returns c =

@@ -1,17 +1,17 @@
 -- `law_tests::keeps_unit` meets its contract. Assumes nothing.
+use native.Mathlib.Omega.{arith}
 use Rattle.law_tests.proofs.LawTests.{unit-passes, unit-fails}
-use borrow.Author.Needs.{needs}
 use Rattle.law_tests.proofs.keeps_unit.Statement.{statement}
 use Rattle.law_tests.proofs.keeps_unit.Tie as tie
 
 cast-e : tie.Need-cast-e
-cast-e c = search needs
+cast-e c = omega arith
 
 prod-requires : tie.Need-prod-requires
-prod-requires c κs = search needs
+prod-requires c κs = search
 
 prod-requires-2 : tie.Need-prod-requires-2
-prod-requires-2 c κs = search needs
+prod-requires-2 c κs = search
 
 returns : tie.Need-returns
 returns c =

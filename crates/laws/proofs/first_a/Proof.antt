@@ -1,8 +1,8 @@
 -- `laws::first_a` meets its contract. Assumes nothing.
+use native.Mathlib.Omega.{arith}
 use Prim.Native.Nat.{_-_}
 use Rattle.paper.specs.Check.{lawAtOne, brokenA, brokenB}
 use Rattle.laws.proofs.Tries.{Tried, every, tried-none, tried-more, fails-at, fails-nowhere, all-pass, one-fails}
-use borrow.Author.Needs.{needs}
 use Rattle.laws.proofs.first_a.Statement.{statement}
 use Rattle.laws.proofs.first_a.Tie as tie
 
@@ -16,10 +16,10 @@ loop-holds : tie.Need-loop-holds Inv-loop μ-loop
 loop-holds c = tried-none every
 
 cast-first-b : tie.Need-cast-first-b Inv-loop μ-loop
-cast-first-b c = search needs
+cast-first-b c = omega arith
 
 first-b-requires : tie.Need-first-b-requires Inv-loop μ-loop
-first-b-requires c κs = search needs
+first-b-requires c κs = search
 
 returns : tie.Need-returns Inv-loop μ-loop
 unfolding brokenA brokenB lawAtOne
@@ -29,10 +29,10 @@ returns c =
     (one-fails _ k-is (c .before .before .first-b .ensures) (c .if2 .taken))
 
 add-a : tie.Need-add-a Inv-loop μ-loop
-add-a c = search needs
+add-a c = omega arith
 
 loop-less : tie.Need-loop-less Inv-loop μ-loop
-loop-less c = search needs
+loop-less c = omega arith
 
 loop-again : tie.Need-loop-again Inv-loop μ-loop
 unfolding brokenB lawAtOne

@@ -1,4 +1,5 @@
 -- `laws::first_b` meets its contract. Assumes nothing.
+use native.Mathlib.Omega.{arith}
 use mathlib.Core.Bool.{Bool}
 use Prim.Native.Nat.{ℕ, _-_}
 use denote.Ref.{now}
@@ -15,13 +16,13 @@ abbrev μ-loop : tie.MeasureT-loop
 μ-loop chart shape law a count b₀ b = count - b
 
 tries-b-requires : tie.Need-tries-b-requires Inv-loop μ-loop
-tries-b-requires c κs = search needs
+tries-b-requires c κs = omega arith
 
 loop-holds : tie.Need-loop-holds Inv-loop μ-loop
 loop-holds c = tried-none (c .tries-b .ensures _ _)
 
 cast-first-c : tie.Need-cast-first-c Inv-loop μ-loop
-cast-first-c c = search needs
+cast-first-c c = omega arith
 
 first-c-requires : tie.Need-first-c-requires Inv-loop μ-loop
 first-c-requires c κs = search needs
@@ -38,10 +39,10 @@ returns c =
     (one-fails (at-b (c .before .before .before .before)) k-is (c .before .before .first-c .ensures) (c .if1 .taken))
 
 add-b : tie.Need-add-b Inv-loop μ-loop
-add-b c = search needs
+add-b c = omega arith
 
 loop-less : tie.Need-loop-less Inv-loop μ-loop
-loop-less c = search needs
+loop-less c = omega arith
 
 loop-again : tie.Need-loop-again Inv-loop μ-loop
 unfolding brokenC lawAtTwo

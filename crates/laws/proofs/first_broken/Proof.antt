@@ -5,7 +5,6 @@ use native.Mathlib.Omega.{arith}
 use Rattle.paper.specs.Check.{lawHolds, brokenLaw, brokenA}
 use Rattle.laws.proofs.Tries.{Tried, every, tried-none, tried-more, fails-nowhere, all-pass}
 use Rattle.laws.proofs.FirstBroken.{b-low, first-is}
-use borrow.Author.Needs.{needs}
 use Rattle.laws.proofs.first_broken.Statement.{statement}
 use Rattle.laws.proofs.first_broken.Tie as tie
 
@@ -19,16 +18,16 @@ loop-holds : tie.Need-loop-holds Inv-loop μ-loop
 loop-holds c = tried-none every
 
 first-a-requires : tie.Need-first-a-requires Inv-loop μ-loop
-first-a-requires c κs = search needs
+first-a-requires c κs = search
 
 cast-first-b : tie.Need-cast-first-b Inv-loop μ-loop
-cast-first-b c = search needs
+cast-first-b c = omega arith
 
 first-b-requires : tie.Need-first-b-requires Inv-loop μ-loop
-first-b-requires c κs = search needs
+first-b-requires c κs = search
 
 cast-first-c : tie.Need-cast-first-c Inv-loop μ-loop
-cast-first-c c = search needs
+cast-first-c c = omega arith
 
 -- b is below k, since the law is broken at a
 low : (c : tie.After-first-b Inv-loop μ-loop) → c .first-b .result < c .before .before .before .before .before .before .before .args .shape .k
@@ -43,7 +42,7 @@ first-c-requires : tie.Need-first-c-requires Inv-loop μ-loop
 first-c-requires c κs = (c .before .before .before .before .before .before .before .pre, c .before .if1 .taken, low c)
 
 add-t10 : tie.Need-add-t10 Inv-loop μ-loop
-add-t10 c = search needs
+add-t10 c = omega arith
 
 returns : tie.Need-returns Inv-loop μ-loop
 returns c =
@@ -57,10 +56,10 @@ returns c =
     (c .before .before .before .before .before .loop-test .taken)
 
 add-law : tie.Need-add-law Inv-loop μ-loop
-add-law c = search needs
+add-law c = omega arith
 
 loop-less : tie.Need-loop-less Inv-loop μ-loop
-loop-less c = search needs
+loop-less c = omega arith
 
 loop-again : tie.Need-loop-again Inv-loop μ-loop
 unfolding lawHolds brokenA

@@ -1,4 +1,5 @@
 -- `laws::first_c` meets its contract. Assumes nothing.
+use native.Mathlib.Omega.{arith}
 use mathlib.Core.Path.{sym, _∙_}
 use Prim.Native.Nat.{_-_}
 use borrow.Author.Tests.{not-true, not-false}
@@ -15,13 +16,13 @@ abbrev μ-loop : tie.MeasureT-loop
 μ-loop chart shape law a b count c₀ c = count - c
 
 tries-c-requires : tie.Need-tries-c-requires Inv-loop μ-loop
-tries-c-requires c κs = search needs
+tries-c-requires c κs = omega arith
 
 loop-holds : tie.Need-loop-holds Inv-loop μ-loop
 loop-holds c = tried-none (c .tries-c .ensures _ _ _)
 
 cast-law-at : tie.Need-cast-law-at Inv-loop μ-loop
-cast-law-at c = search needs
+cast-law-at c = omega arith
 
 law-at-requires : tie.Need-law-at-requires Inv-loop μ-loop
 law-at-requires c κs = search needs
@@ -33,10 +34,10 @@ returns c =
     (sym (c .before .law-at .ensures) ∙ not-true _ (c .if1 .taken))
 
 add-c : tie.Need-add-c Inv-loop μ-loop
-add-c c = search needs
+add-c c = omega arith
 
 loop-less : tie.Need-loop-less Inv-loop μ-loop
-loop-less c = search needs
+loop-less c = omega arith
 
 loop-again : tie.Need-loop-again Inv-loop μ-loop
 loop-again c =

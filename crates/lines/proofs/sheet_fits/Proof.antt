@@ -9,7 +9,6 @@ use Rattle.paper.specs.Sheets.{lineFits}
 use Rattle.lists.proofs.Tests.{fell, held, all-more}
 use Rattle.lines.specs.Readable.{LinesIn}
 use Rattle.lines.proofs.Reading.{line-in, many-lines, short-sheet, bad-line, sheet-good}
-use borrow.Author.Needs.{needs}
 use Rattle.lines.proofs.sheet_fits.Statement.{statement}
 use Rattle.lines.proofs.sheet_fits.Tie as tie
 
@@ -23,32 +22,32 @@ returns : tie.Need-returns Inv-loop μ-loop
 returns c = many-lines _ _ _ _ (c .if1 .taken)
 
 add-if2 : tie.Need-add-if2 Inv-loop μ-loop
-add-if2 c = search needs
+add-if2 c = omega arith
 
 mul-if2 : tie.Need-mul-if2 Inv-loop μ-loop
 mul-if2 c = let a = c .before .before .before .before .args in omega (arith, product {a = a .lines} {b = 2 + a .shape .n} {c = 4096} {d = 26} (omega arith) (omega (arith, c .before .before .before .before .pre .sizes .n-high)))
 
 returns-2 : tie.Need-returns-2 Inv-loop μ-loop
-returns-2 c = short-sheet (c .before .before .before .before .before .pre) _ _ _ (search needs) (omega arith)
+returns-2 c = short-sheet (c .before .before .before .before .before .pre) _ _ _ (search) (omega arith)
 
 loop-holds : tie.Need-loop-holds Inv-loop μ-loop
 unfolding allBelow
-loop-holds c = (search needs, search needs, record { shaped = c .before .before .before .before .before .pre; few = omega arith; inside = omega arith }, refl)
+loop-holds c = (omega arith, search, record { shaped = c .before .before .before .before .before .pre; few = omega arith; inside = omega arith }, refl)
 
 line-fits-requires : tie.Need-line-fits-requires Inv-loop μ-loop
-line-fits-requires c κs = line-in (c .before .loop .inv .2) (search needs)
+line-fits-requires c κs = line-in (c .before .loop .inv .2) (search)
 
 returns-3 : tie.Need-returns-3 Inv-loop μ-loop
-returns-3 c = let l = c .before .before .before .loop in bad-line _ _ _ _ (l .i) (search needs) (fell (c .before .line-fits .ensures) (c .if3 .taken))
+returns-3 c = let l = c .before .before .before .loop in bad-line _ _ _ _ (l .i) (search) (fell (c .before .line-fits .ensures) (c .if3 .taken))
 
 add-i : tie.Need-add-i Inv-loop μ-loop
-add-i c = search needs
+add-i c = omega arith
 
 loop-less : tie.Need-loop-less Inv-loop μ-loop
-loop-less c = search needs
+loop-less c = omega arith
 
 loop-again : tie.Need-loop-again Inv-loop μ-loop
-loop-again c = let l = c .before .before .before .loop in (search needs, search needs, l .inv .2, all-more _ _ (l .inv .3) (held (c .before .line-fits .ensures) (c .if3 .left)))
+loop-again c = let l = c .before .before .before .loop in (omega arith, search, l .inv .2, all-more _ _ (l .inv .3) (held (c .before .line-fits .ensures) (c .if3 .left)))
 
 returns-4 : tie.Need-returns-4 Inv-loop μ-loop
 returns-4 c = let l = c .before .loop in sheet-good (l .inv .2 .shaped) _ _ _ (l .i) (l .inv .1) (l .inv .2 .inside) (omega arith) (l .inv .3)

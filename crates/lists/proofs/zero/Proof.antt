@@ -17,22 +17,22 @@ abbrev μ-loop : tie.MeasureT-loop
 μ-loop out₀ i₀ out i = length out₀ - i
 
 loop-holds : tie.Need-loop-holds Inv-loop μ-loop
-loop-holds c = (search needs, refl, refl)
+loop-holds c = (omega arith, refl, refl)
 
 slice-write-out : tie.Need-slice-write-out Inv-loop μ-loop
-slice-write-out c = search needs
+slice-write-out c = search
 
 add-i : tie.Need-add-i Inv-loop μ-loop
-add-i c = search needs
+add-i c = omega arith
 
 loop-less : tie.Need-loop-less Inv-loop μ-loop
-loop-less c = search needs
+loop-less c = omega arith
 
 loop-again : tie.Need-loop-again Inv-loop μ-loop
-loop-again c = (search needs, search needs, zeros-more (c .before .loop .i) (c .before .loop .out) (now (c .before .before .args .out)) (omega arith) (c .before .loop .inv .2))
+loop-again c = (omega arith, search needs, zeros-more (c .before .loop .i) (c .before .loop .out) (now (c .before .before .args .out)) (omega arith) (c .before .loop .inv .2))
 
 same-length : tie.Need-same-length Inv-loop μ-loop
-same-length c = search needs
+same-length c = search
 
 returns : tie.Need-returns Inv-loop μ-loop
 returns c = zeros-all (c .before .loop .i) (c .before .loop .out) (now (c .before .before .args .out)) (omega arith) (omega arith) (c .before .loop .inv .2)

@@ -1,20 +1,20 @@
 -- `made::build_nerode` meets its contract. Assumes nothing.
+use native.Mathlib.Omega.{arith}
 use Rattle.made.proofs.Made.{nerode-made}
-use borrow.Author.Needs.{needs}
 use Rattle.made.proofs.build_nerode.Statement.{statement}
 use Rattle.made.proofs.build_nerode.Tie as tie
 
 vector-buffer-requires : tie.Need-vector-buffer-requires
-vector-buffer-requires c κs = search needs
+vector-buffer-requires c κs = search
 
 slice-aggregate-nerode : tie.Need-slice-aggregate-nerode
-slice-aggregate-nerode c = search needs
+slice-aggregate-nerode c = omega arith
 
 nerode-requires : tie.Need-nerode-requires
-nerode-requires c κs = search needs
+nerode-requires c κs = search
 
 same-length : tie.Need-same-length
-same-length c = search needs
+same-length c = search
 
 returns : tie.Need-returns
 returns c = nerode-made _ _ (c .before .before .before .before .before .before .before .before .before .pre) (c .before .before .before .before .before .before .vector-buffer .ensures) (c .before .before .before .nerode .ensures)

@@ -5,7 +5,6 @@ use Prim.Native.Nat.{ℕ, _≤_, _<_, _-_}
 use lib.ListN.{length, getD}
 use borrow.Author.Count.{below-more, below-none}
 use Rattle.marks.proofs.MarkLaws.{same-all, same-fails}
-use borrow.Author.Needs.{needs}
 use Rattle.marks.proofs.same.Statement.{statement}
 use Rattle.marks.proofs.same.Tie as tie
 
@@ -16,25 +15,25 @@ abbrev μ-loop : tie.MeasureT-loop
 μ-loop a b i₀ i = length a - i
 
 loop-holds : tie.Need-loop-holds Inv-loop μ-loop
-loop-holds c = (search needs, below-none _)
+loop-holds c = (omega arith, below-none _)
 
 shared-slice-read-if1 : tie.Need-shared-slice-read-if1 Inv-loop μ-loop
-shared-slice-read-if1 c = search needs
+shared-slice-read-if1 c = search
 
 shared-slice-read-if1-2 : tie.Need-shared-slice-read-if1-2 Inv-loop μ-loop
-shared-slice-read-if1-2 c = search needs
+shared-slice-read-if1-2 c = omega arith
 
 returns : tie.Need-returns Inv-loop μ-loop
 returns c = same-fails _ _ (c .before .before .before .before .before .pre) (c .before .before .before .before .loop .i) (c .if1 .taken)
 
 add-i : tie.Need-add-i Inv-loop μ-loop
-add-i c = search needs
+add-i c = omega arith
 
 loop-less : tie.Need-loop-less Inv-loop μ-loop
-loop-less c = search needs
+loop-less c = omega arith
 
 loop-again : tie.Need-loop-again Inv-loop μ-loop
-loop-again c = (search needs, below-more _ _ (c .before .before .before .before .loop .inv .1) (c .if1 .left))
+loop-again c = (omega arith, below-more _ _ (c .before .before .before .before .loop .inv .1) (c .if1 .left))
 
 returns-2 : tie.Need-returns-2 Inv-loop μ-loop
 returns-2 c = same-all _ _ (c .before .before .pre) (c .before .loop .i) (c .before .loop .inv .1) (omega arith)

@@ -21,23 +21,23 @@ abbrev μ-loop : tie.MeasureT-loop
 μ-loop table letters count x row out₀ size at₀ i₀ out at i = count - i
 
 mul-size : tie.Need-mul-size Inv-loop μ-loop
-mul-size c = search needs
+mul-size c = omega arith
 
 add-size : tie.Need-add-size Inv-loop μ-loop
-add-size c = search needs
+add-size c = omega arith
 
 mul-at : tie.Need-mul-at Inv-loop μ-loop
-mul-at c = search needs
+mul-at c = omega arith
 
 add-at : tie.Need-add-at Inv-loop μ-loop
-add-at c = search needs
+add-at c = omega arith
 
 loop-holds : tie.Need-loop-holds Inv-loop μ-loop
 unfolding tabulate
-loop-holds c = (search needs, omega (arith, zero-mul (1 + 2 * c .args .letters)), refl, inFront-none _)
+loop-holds c = (omega arith, omega (arith, zero-mul (1 + 2 * c .args .letters)), refl, inFront-none _)
 
 shared-slice-read-next : tie.Need-shared-slice-read-next Inv-loop μ-loop
-shared-slice-read-next c = let a = c .before .before .before .args in let l = c .before .before .loop in omega (arith, next-inside (l .i) (a .x) (c .before .before .before .pre .3) (l .inv .1) (search needs) (c .before .before .before .pre .0))
+shared-slice-read-next c = let a = c .before .before .before .args in let l = c .before .before .loop in omega (arith, next-inside (l .i) (a .x) (c .before .before .before .pre .3) (l .inv .1) (search) (c .before .before .before .pre .0))
 
 cast-next : tie.Need-cast-next Inv-loop μ-loop
 cast-next c = omega (arith, c .shared-slice-known .given (c .before .before .loop .at))
@@ -46,10 +46,10 @@ mul-next : tie.Need-mul-next Inv-loop μ-loop
 mul-next c = omega (arith, c .shared-slice-known .given (c .before .before .loop .at))
 
 add-next : tie.Need-add-next Inv-loop μ-loop
-add-next c = let a = c .before .before .before .args in let l = c .before .before .loop in omega (arith, next-inside (l .i) (a .x) (c .before .before .before .pre .3) (l .inv .1) (search needs) (c .before .before .before .pre .0))
+add-next c = let a = c .before .before .before .args in let l = c .before .before .loop in omega (arith, next-inside (l .i) (a .x) (c .before .before .before .pre .3) (l .inv .1) (search) (c .before .before .before .pre .0))
 
 shared-slice-read-next-2 : tie.Need-shared-slice-read-next-2 Inv-loop μ-loop
-shared-slice-read-next-2 c = let a = c .before .before .before .before .args in let l = c .before .before .before .loop in next-inside (l .i) (a .x) (c .before .before .before .before .pre .3) (l .inv .1) (search needs) (c .before .before .before .before .pre .0)
+shared-slice-read-next-2 c = let a = c .before .before .before .before .args in let l = c .before .before .before .loop in next-inside (l .i) (a .x) (c .before .before .before .before .pre .3) (l .inv .1) (search) (c .before .before .before .before .pre .0)
 
 cast-next-2 : tie.Need-cast-next-2 Inv-loop μ-loop
 cast-next-2 c = omega (arith, c .shared-slice-known2 .given (c .before .before .before .loop .at + 1))
@@ -58,25 +58,25 @@ add-next-2 : tie.Need-add-next-2 Inv-loop μ-loop
 add-next-2 c = omega (arith, c .shared-slice-known2 .given (c .before .before .before .loop .at + 1), c .before .shared-slice-known .given (c .before .before .before .loop .at))
 
 shared-slice-read-out : tie.Need-shared-slice-read-out Inv-loop μ-loop
-shared-slice-read-out c = let a = c .before .before .before .before .before .args in let l = c .before .before .before .before .loop in omega (arith, next-low (l .i) (a .x) (c .before .before .before .before .before .pre .3) (next-read (now (a .table)) (a .letters) (l .i) (a .x) (l .inv .1) refl refl) (search needs) (c .before .before .before .before .before .pre .0))
+shared-slice-read-out c = let a = c .before .before .before .before .before .args in let l = c .before .before .before .before .loop in omega (arith, next-low (l .i) (a .x) (c .before .before .before .before .before .pre .3) (next-read (now (a .table)) (a .letters) (l .i) (a .x) (l .inv .1) refl refl) (search) (c .before .before .before .before .before .pre .0))
 
 slice-write-out : tie.Need-slice-write-out Inv-loop μ-loop
-slice-write-out c = search needs
+slice-write-out c = omega arith
 
 add-at-2 : tie.Need-add-at-2 Inv-loop μ-loop
-add-at-2 c = let a = c .before .before .before .before .before .args in let l = c .before .before .before .before .loop in omega (arith, next-inside (l .i) (a .x) (c .before .before .before .before .before .pre .3) (l .inv .1) (search needs) (c .before .before .before .before .before .pre .0))
+add-at-2 c = let a = c .before .before .before .before .before .args in let l = c .before .before .before .before .loop in omega (arith, next-inside (l .i) (a .x) (c .before .before .before .before .before .pre .3) (l .inv .1) (search) (c .before .before .before .before .before .pre .0))
 
 add-i : tie.Need-add-i Inv-loop μ-loop
-add-i c = search needs
+add-i c = omega arith
 
 loop-less : tie.Need-loop-less Inv-loop μ-loop
-loop-less c = search needs
+loop-less c = omega arith
 
 loop-again : tie.Need-loop-again Inv-loop μ-loop
-loop-again c = let a = c .before .before .before .before .before .args in let l = c .before .before .before .before .loop in (search needs, offset-more (l .i) (1 + 2 * a .letters) (l .at) (1 + 2 * a .x) (l .inv .1), search needs, inFront-tabulate _ _ _ (search needs) (l .inv .3) (next-entry _ _ (l .i) (a .x) _ (next-read (now (a .table)) (a .letters) (l .i) (a .x) (l .inv .1) refl refl) refl))
+loop-again c = let a = c .before .before .before .before .before .args in let l = c .before .before .before .before .loop in (omega arith, offset-more (l .i) (1 + 2 * a .letters) (l .at) (1 + 2 * a .x) (l .inv .1), search needs, inFront-tabulate _ _ _ (omega arith) (l .inv .3) (next-entry _ _ (l .i) (a .x) _ (next-read (now (a .table)) (a .letters) (l .i) (a .x) (l .inv .1) refl refl) refl))
 
 same-length : tie.Need-same-length Inv-loop μ-loop
-same-length c = search needs
+same-length c = search
 
 returns : tie.Need-returns Inv-loop μ-loop
 unfolding nextRow

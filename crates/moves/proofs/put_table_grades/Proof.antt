@@ -22,35 +22,35 @@ abbrev μ-loop : tie.MeasureT-loop
 μ-loop table letters count out₀ size at₀ i₀ out at i = count - i
 
 mul-size : tie.Need-mul-size Inv-loop μ-loop
-mul-size c = search needs
+mul-size c = omega arith
 
 add-size : tie.Need-add-size Inv-loop μ-loop
-add-size c = search needs
+add-size c = omega arith
 
 loop-holds : tie.Need-loop-holds Inv-loop μ-loop
 unfolding tabulate
-loop-holds c = (search needs, sym (zero-mul _), refl, inFront-none _)
+loop-holds c = (omega arith, sym (zero-mul _), refl, inFront-none _)
 
 shared-slice-read-out : tie.Need-shared-slice-read-out Inv-loop μ-loop
-shared-slice-read-out c = let a = c .before .before .before .args in let l = c .before .before .loop in omega (arith, row-inside (l .i) (a .count) (1 + 2 * a .letters) (length (now (a .table))) (search needs) (c .before .before .before .pre .0))
+shared-slice-read-out c = let a = c .before .before .before .args in let l = c .before .before .loop in omega (arith, row-inside (l .i) (a .count) (1 + 2 * a .letters) (length (now (a .table))) (search) (c .before .before .before .pre .0))
 
 slice-write-out : tie.Need-slice-write-out Inv-loop μ-loop
-slice-write-out c = search needs
+slice-write-out c = omega arith
 
 add-at : tie.Need-add-at Inv-loop μ-loop
-add-at c = let a = c .before .before .before .args in let l = c .before .before .loop in omega (arith, row-inside (l .i) (a .count) (1 + 2 * a .letters) (length (now (a .table))) (search needs) (c .before .before .before .pre .0))
+add-at c = let a = c .before .before .before .args in let l = c .before .before .loop in omega (arith, row-inside (l .i) (a .count) (1 + 2 * a .letters) (length (now (a .table))) (search) (c .before .before .before .pre .0))
 
 add-i : tie.Need-add-i Inv-loop μ-loop
-add-i c = search needs
+add-i c = omega arith
 
 loop-less : tie.Need-loop-less Inv-loop μ-loop
-loop-less c = search needs
+loop-less c = omega arith
 
 loop-again : tie.Need-loop-again Inv-loop μ-loop
-loop-again c = let l = c .before .before .loop in (search needs, omega (arith, offset-more (l .i) (1 + 2 * c .before .before .before .args .letters) (l .at) 0 (omega arith)), search needs, inFront-tabulate _ _ _ (search needs) (l .inv .3) (ap (λ j. getD (now (c .before .before .before .args .table)) j 0) (l .inv .1)))
+loop-again c = let l = c .before .before .loop in (omega arith, omega (arith, offset-more (l .i) (1 + 2 * c .before .before .before .args .letters) (l .at) 0 (omega arith)), search needs, inFront-tabulate _ _ _ (omega arith) (l .inv .3) (ap (λ j. getD (now (c .before .before .before .args .table)) j 0) (l .inv .1)))
 
 same-length : tie.Need-same-length Inv-loop μ-loop
-same-length c = search needs
+same-length c = search
 
 returns : tie.Need-returns Inv-loop μ-loop
 unfolding gradesIn

@@ -1,4 +1,5 @@
 -- `next_pairs::next_holds` meets its contract. Assumes nothing.
+use native.Mathlib.Omega.{arith}
 use mathlib.Core.Path.{sym}
 use Rattle.lines.proofs.PairBytes.{length-front}
 use Rattle.next_pairs.proofs.NextPairs.{length-times, next-is}
@@ -7,16 +8,16 @@ use Rattle.next_pairs.proofs.next_holds.Statement.{statement}
 use Rattle.next_pairs.proofs.next_holds.Tie as tie
 
 slice-aggregate-put-next : tie.Need-slice-aggregate-put-next
-slice-aggregate-put-next c = search needs
+slice-aggregate-put-next c = search
 
 put-next-requires : tie.Need-put-next-requires
 put-next-requires c κs = search needs
 
 add-size : tie.Need-add-size
-add-size c = search needs
+add-size c = omega arith
 
 array-share-prefix-next : tie.Need-array-share-prefix-next
-array-share-prefix-next c = search needs
+array-share-prefix-next c = omega arith
 
 slice-aggregate-on-sheet : tie.Need-slice-aggregate-on-sheet
 slice-aggregate-on-sheet c = sym (length-front _ _ _ (length-times (c .before .before .before .before .before .before .before .before .before .before .before .pre .1 .linesIn .shaped) _ _) _ _ (c .before .before .before .put-next .ensures .0))

@@ -5,7 +5,6 @@ use lib.ListN.{length-set, length-take, length-drop}
 use Rattle.lines.proofs.Reading.{line-in}
 use Rattle.lines.proofs.PairBytes.{pair-put, length-put}
 use Rattle.next_pairs.proofs.NextPairs.{line-row, vector-grades, next-put}
-use borrow.Author.Needs.{needs}
 use Rattle.next_pairs.proofs.put_next.Statement.{statement}
 use Rattle.next_pairs.proofs.put_next.Tie as tie
 
@@ -16,13 +15,13 @@ next-at-requires : tie.Need-next-at-requires
 next-at-requires c κs = let h = c .before .before .before .before .before .pre in (line-row (h .0) (h .1) (c .line-state .ensures), h .2)
 
 cast-out : tie.Need-cast-out
-cast-out c = search needs
+cast-out c = omega arith
 
 slice-write-out : tie.Need-slice-write-out
-slice-write-out c = search needs
+slice-write-out c = omega arith
 
 cast-out-2 : tie.Need-cast-out-2
-cast-out-2 c = search needs
+cast-out-2 c = omega arith
 
 slice-write-out-2 : tie.Need-slice-write-out-2
 slice-write-out-2 c = simp length-set (omega (arith, c .before .before .before .before .before .before .pre .3))
@@ -37,7 +36,7 @@ part-row-times-start : tie.Need-part-row-times-start
 part-row-times-start c = simp length-set (omega (arith, c .before .before .before .before .before .before .before .pre .3))
 
 part-row-times-end : tie.Need-part-row-times-end
-part-row-times-end c = search needs
+part-row-times-end c = omega arith
 
 row-times-requires : tie.Need-row-times-requires
 row-times-requires c κs = let h = c .before .before .before .before .before .before .before .before .pre in (h .0 .linesIn .shaped, h .2, vector-grades (h .0) (h .1) (c .before .line-vector .ensures), simp (length-take, length-drop, length-set) (omega (arith, h .3)))

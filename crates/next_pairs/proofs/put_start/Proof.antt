@@ -5,12 +5,11 @@ use lib.ListN.{length-set, length-take, length-drop}
 use Rattle.vectors.proofs.Parts.{start-inside}
 use Rattle.lines.proofs.PairBytes.{pair-put, length-put}
 use Rattle.next_pairs.proofs.NextPairs.{start-put}
-use borrow.Author.Needs.{needs}
 use Rattle.next_pairs.proofs.put_start.Statement.{statement}
 use Rattle.next_pairs.proofs.put_start.Tie as tie
 
 slice-write-out : tie.Need-slice-write-out
-slice-write-out c = search needs
+slice-write-out c = omega arith
 
 slice-write-out-2 : tie.Need-slice-write-out-2
 slice-write-out-2 c = simp length-set (omega (arith, c .before .before .pre .1))
@@ -22,7 +21,7 @@ part-put-grades-start : tie.Need-part-put-grades-start
 part-put-grades-start c = simp length-set (omega (arith, c .before .before .pre .1))
 
 part-put-grades-end : tie.Need-part-put-grades-end
-part-put-grades-end c = search needs
+part-put-grades-end c = omega arith
 
 put-grades-requires : tie.Need-put-grades-requires
 put-grades-requires c κs = let h = c .before .before .before .pre in (h .0, start-inside (h .0) .0, start-inside (h .0) .1, simp (length-take, length-drop, length-set) (omega (arith, h .1)))

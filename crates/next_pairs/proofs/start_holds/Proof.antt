@@ -9,16 +9,16 @@ use Rattle.next_pairs.proofs.start_holds.Statement.{statement}
 use Rattle.next_pairs.proofs.start_holds.Tie as tie
 
 slice-aggregate-put-start : tie.Need-slice-aggregate-put-start
-slice-aggregate-put-start c = search needs
+slice-aggregate-put-start c = search
 
 put-start-requires : tie.Need-put-start-requires
 put-start-requires c κs = search needs
 
 add-size : tie.Need-add-size
-add-size c = search needs
+add-size c = omega arith
 
 array-share-prefix-first : tie.Need-array-share-prefix-first
-array-share-prefix-first c = search needs
+array-share-prefix-first c = omega arith
 
 slice-aggregate-on-sheet : tie.Need-slice-aggregate-on-sheet
 slice-aggregate-on-sheet c = sym (length-front 0 _ _ (length-start (c .before .before .before .before .before .before .before .before .before .before .pre .linesIn .shaped)) _ _ (c .before .before .before .put-start .ensures))

@@ -7,7 +7,6 @@ use Rattle.paper.specs.Lists.{allBelow}
 use Rattle.paper.specs.Sheets.{lineHolds}
 use Rattle.lists.proofs.Tests.{fell, held, all-more}
 use Rattle.pairs.proofs.Holding.{line-bad, lines-good}
-use borrow.Author.Needs.{needs}
 use Rattle.pairs.proofs.bad_line.Statement.{statement}
 use Rattle.pairs.proofs.bad_line.Tie as tie
 
@@ -19,22 +18,22 @@ abbrev μ-loop : tie.MeasureT-loop
 
 loop-holds : tie.Need-loop-holds Inv-loop μ-loop
 unfolding allBelow
-loop-holds c = (search needs, refl)
+loop-holds c = (omega arith, refl)
 
 line-holds-requires : tie.Need-line-holds-requires Inv-loop μ-loop
-line-holds-requires c κs = let h = c .before .before .before .before .before .before .before .before .pre in (h .0, h .1, search needs)
+line-holds-requires c κs = let h = c .before .before .before .before .before .before .before .before .pre in (h .0, h .1, search)
 
 returns : tie.Need-returns Inv-loop μ-loop
-returns c = line-bad _ _ _ _ (c .before .before .before .loop .i) (c .before .before .before .loop .inv .1) (search needs) (fell (c .before .line-holds .ensures) (c .if1 .taken))
+returns c = line-bad _ _ _ _ (c .before .before .before .loop .i) (c .before .before .before .loop .inv .1) (search) (fell (c .before .line-holds .ensures) (c .if1 .taken))
 
 add-i : tie.Need-add-i Inv-loop μ-loop
-add-i c = search needs
+add-i c = omega arith
 
 loop-less : tie.Need-loop-less Inv-loop μ-loop
-loop-less c = search needs
+loop-less c = omega arith
 
 loop-again : tie.Need-loop-again Inv-loop μ-loop
-loop-again c = (search needs, all-more _ _ (c .before .before .before .loop .inv .1) (held (c .before .line-holds .ensures) (c .if1 .left)))
+loop-again c = (omega arith, all-more _ _ (c .before .before .before .loop .inv .1) (held (c .before .line-holds .ensures) (c .if1 .left)))
 
 returns-2 : tie.Need-returns-2 Inv-loop μ-loop
 returns-2 c = lines-good _ _ _ _ (c .before .loop .i) (c .before .loop .inv .1) (omega arith)

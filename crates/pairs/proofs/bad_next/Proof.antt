@@ -7,7 +7,6 @@ use Rattle.paper.specs.Lists.{allBelow}
 use Rattle.paper.specs.Sheets.{nextHolds}
 use Rattle.lists.proofs.Tests.{fell, held, all-more}
 use Rattle.pairs.proofs.Holding.{letter-bad, letters-good}
-use borrow.Author.Needs.{needs}
 use Rattle.pairs.proofs.bad_next.Statement.{statement}
 use Rattle.pairs.proofs.bad_next.Tie as tie
 
@@ -19,22 +18,22 @@ abbrev μ-loop : tie.MeasureT-loop
 
 loop-holds : tie.Need-loop-holds Inv-loop μ-loop
 unfolding allBelow
-loop-holds c = (search needs, refl)
+loop-holds c = (omega arith, refl)
 
 next-holds-requires : tie.Need-next-holds-requires Inv-loop μ-loop
-next-holds-requires c κs = let h = c .before .before .before .before .before .before .before .before .before .pre in (h .0, h .1, h .2, search needs)
+next-holds-requires c κs = let h = c .before .before .before .before .before .before .before .before .before .pre in (h .0, h .1, h .2, search)
 
 returns : tie.Need-returns Inv-loop μ-loop
-returns c = letter-bad (c .before .before .before .before .before .before .before .before .before .before .before .pre .0 .linesIn .shaped) _ _ _ _ (c .before .before .before .before .loop .x) (search needs) (c .before .before .before .before .loop .inv .1) (fell (c .before .next-holds .ensures) (c .if2 .taken))
+returns c = letter-bad (c .before .before .before .before .before .before .before .before .before .before .before .pre .0 .linesIn .shaped) _ _ _ _ (c .before .before .before .before .loop .x) (search) (c .before .before .before .before .loop .inv .1) (fell (c .before .next-holds .ensures) (c .if2 .taken))
 
 add-x : tie.Need-add-x Inv-loop μ-loop
-add-x c = search needs
+add-x c = omega arith
 
 loop-less : tie.Need-loop-less Inv-loop μ-loop
-loop-less c = search needs
+loop-less c = omega arith
 
 loop-again : tie.Need-loop-again Inv-loop μ-loop
-loop-again c = (search needs, all-more _ _ (c .before .before .before .before .loop .inv .1) (held (c .before .next-holds .ensures) (c .if2 .left)))
+loop-again c = (omega arith, all-more _ _ (c .before .before .before .before .loop .inv .1) (held (c .before .next-holds .ensures) (c .if2 .left)))
 
 returns-2 : tie.Need-returns-2 Inv-loop μ-loop
 returns-2 c = letters-good (c .before .before .before .before .before .before .before .before .before .pre .0 .linesIn .shaped) _ _ _ _ (c .before .before .loop .x) (omega arith) (c .before .before .loop .inv .1)

@@ -1,6 +1,5 @@
 -- `reading::read_chart` meets its contract: a short buffer, a chart, and a refusal that zeroes.
 -- Assumes nothing.
-use borrow.Author.Needs.{needs}
 use Rattle.reading.proofs.Whole.{short-read, chart-read, chart-refused}
 use Rattle.reading.proofs.read_chart.Statement.{statement}
 use Rattle.reading.proofs.read_chart.Tie as tie
@@ -9,28 +8,28 @@ returns : tie.Need-returns
 returns c = short-read _ _ (c .if1 .taken)
 
 read-whole-requires : tie.Need-read-whole-requires
-read-whole-requires c κs = search needs
+read-whole-requires c κs = search
 
 enum-known-size : tie.Need-enum-known-size
-enum-known-size c = search needs
+enum-known-size c = search
 
 enum-known-why : tie.Need-enum-known-why
-enum-known-why c = search needs
+enum-known-why c = search
 
 zero-requires : tie.Need-zero-requires
-zero-requires c κs = search needs
+zero-requires c κs = search
 
 same-length : tie.Need-same-length
-same-length c = search needs
+same-length c = search
 
 returns-2 : tie.Need-returns-2
-returns-2 c = chart-read _ _ (search needs) _ _ (c .before .before .before .before .before .read-whole .ensures) _ (c .before .size .given .1)
+returns-2 c = chart-read _ _ (search) _ _ (c .before .before .before .before .before .read-whole .ensures) _ (c .before .size .given .1)
 
 same-length-2 : tie.Need-same-length-2
-same-length-2 c = search needs
+same-length-2 c = search
 
 returns-3 : tie.Need-returns-3
-returns-3 c = chart-refused _ _ (search needs) _ _ (c .before .before .before .before .before .before .before .before .before .read-whole .ensures) _ (c .before .before .before .before .before .why .given .1) _ (c .before .before .zero .ensures)
+returns-3 c = chart-refused _ _ (search) _ _ (c .before .before .before .before .before .before .before .before .before .read-whole .ensures) _ (c .before .before .before .before .before .why .given .1) _ (c .before .before .zero .ensures)
 
 pub read-chart-spec : {M : Type 1} → statement M
 read-chart-spec =

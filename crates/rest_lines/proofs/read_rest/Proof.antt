@@ -1,6 +1,5 @@
 -- `rest_lines::read_rest` meets its contract. The loop's invariant: the lines that are left come to what all of them come to.
 -- Assumes nothing.
-use borrow.Author.Needs.{needs}
 use mathlib.Core.Path.{_∙_}
 use Prim.Native.Nat.{_-_}
 use native.Mathlib.Omega.{arith}
@@ -18,16 +17,16 @@ abbrev μ-loop : tie.MeasureT-loop
 μ-loop text counts chart₀ cursor₀ chart cursor = length text - cursor .pos
 
 rule-of-requires : tie.Need-rule-of-requires Inv-loop μ-loop
-rule-of-requires c κs = search needs
+rule-of-requires c κs = omega arith
 
 behind-requires : tie.Need-behind-requires Inv-loop μ-loop
-behind-requires c κs = search needs
+behind-requires c κs = omega arith
 
 loop-holds : tie.Need-loop-holds Inv-loop μ-loop
 loop-holds c = rw (c .behind .ensures) (loop-start _ _ _ (c .before .before .before .before .pre))
 
 byte-at-requires : tie.Need-byte-at-requires Inv-loop μ-loop
-byte-at-requires c κs = search needs
+byte-at-requires c κs = omega arith
 
 same-length : tie.Need-same-length Inv-loop μ-loop
 same-length c = loop-kept (c .before .before .before .before .before .loop .inv)
@@ -36,7 +35,7 @@ returns : tie.Need-returns Inv-loop μ-loop
 returns c = loop-other (c .before .before .before .before .before .loop .inv) (c .before .before .before .if1 .taken) _ (c .before .before .byte-at .ensures .0) (c .if2 .taken)
 
 rule-of-requires-2 : tie.Need-rule-of-requires-2 Inv-loop μ-loop
-rule-of-requires-2 c κs = search needs
+rule-of-requires-2 c κs = omega arith
 
 sub-read-frame : tie.Need-sub-read-frame Inv-loop μ-loop
 sub-read-frame c = omega (arith, loop-room (c .before .before .before .before .before .before .loop .inv) (c .before .before .before .before .if1 .taken) _ (c .before .if2 .left) _ (c .rule-of2 .ensures))
@@ -45,7 +44,7 @@ part-read-frame-start : tie.Need-part-read-frame-start Inv-loop μ-loop
 part-read-frame-start c = omega (arith, loop-room (c .before .before .before .before .before .before .loop .inv) (c .before .before .before .before .if1 .taken) _ (c .before .if2 .left) _ (c .rule-of2 .ensures))
 
 part-read-frame-end : tie.Need-part-read-frame-end Inv-loop μ-loop
-part-read-frame-end c = search needs
+part-read-frame-end c = omega arith
 
 read-frame-requires : tie.Need-read-frame-requires Inv-loop μ-loop
 read-frame-requires c κs = loop-frame (c .before .before .before .before .before .before .before .loop .inv) (c .before .before .before .before .before .if1 .taken) _ (c .before .before .if2 .left) _ (c .before .rule-of2 .ensures)

@@ -1,6 +1,5 @@
 -- `row_lines::put_rows` meets its contract. The loop's invariant: the lines of s states are in front of the buffer.
 -- Assumes nothing.
-use borrow.Author.Needs.{needs}
 use mathlib.Core.Path.{refl}
 use Prim.Native.Nat.{_-_}
 use native.Mathlib.Omega.{arith}
@@ -15,10 +14,10 @@ abbrev μ-loop : tie.MeasureT-loop
 μ-loop rows count m text₀ width s₀ from₀ at₀ text s from at = count - s
 
 mul-width : tie.Need-mul-width Inv-loop μ-loop
-mul-width c = search needs
+mul-width c = omega arith
 
 add-width : tie.Need-add-width Inv-loop μ-loop
-add-width c = search needs
+add-width c = omega arith
 
 loop-holds : tie.Need-loop-holds Inv-loop μ-loop
 loop-holds c = rows-start _ _ _ _ (c .before .before .pre)
@@ -27,10 +26,10 @@ add-next : tie.Need-add-next Inv-loop μ-loop
 add-next c = omega (arith, row-inside (c .before .loop .inv) (c .loop-test .taken))
 
 sub-put-frame : tie.Need-sub-put-frame Inv-loop μ-loop
-sub-put-frame c = search needs
+sub-put-frame c = omega arith
 
 part-put-frame-start : tie.Need-part-put-frame-start Inv-loop μ-loop
-part-put-frame-start c = search needs
+part-put-frame-start c = omega arith
 
 part-put-frame-end : tie.Need-part-put-frame-end Inv-loop μ-loop
 part-put-frame-end c = omega (arith, row-inside (c .before .loop .inv) (c .loop-test .taken))
@@ -42,25 +41,25 @@ part-put-frame-start-2 : tie.Need-part-put-frame-start-2 Inv-loop μ-loop
 part-put-frame-start-2 c = omega (arith, line-inside (c .before .before .loop .inv) (c .before .loop-test .taken))
 
 part-put-frame-end-2 : tie.Need-part-put-frame-end-2 Inv-loop μ-loop
-part-put-frame-end-2 c = search needs
+part-put-frame-end-2 c = omega arith
 
 put-frame-requires : tie.Need-put-frame-requires Inv-loop μ-loop
 put-frame-requires c κs = line-room (c .before .before .before .loop .inv) (c .before .before .loop-test .taken) _ refl
 
 add-s : tie.Need-add-s Inv-loop μ-loop
-add-s c = search needs
+add-s c = omega arith
 
 mul-at : tie.Need-mul-at Inv-loop μ-loop
-mul-at c = search needs
+mul-at c = omega arith
 
 add-at : tie.Need-add-at Inv-loop μ-loop
-add-at c = search needs
+add-at c = omega arith
 
 add-at-2 : tie.Need-add-at-2 Inv-loop μ-loop
 add-at-2 c = omega (arith, line-inside (c .before .before .before .before .before .before .loop .inv) (c .before .before .before .before .before .loop-test .taken), rows-kept (c .before .before .before .before .before .before .loop .inv), c .before .before .before .before .before .before .before .before .before .good)
 
 loop-less : tie.Need-loop-less Inv-loop μ-loop
-loop-less c = search needs
+loop-less c = omega arith
 
 loop-again : tie.Need-loop-again Inv-loop μ-loop
 loop-again c = row-more (c .before .before .before .before .before .before .loop .inv) (c .before .before .before .before .before .loop-test .taken) _ refl _ (c .before .before .put-frame .ensures)

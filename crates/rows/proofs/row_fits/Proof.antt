@@ -3,7 +3,6 @@
 use mathlib.Core.Path.{_≡_, refl}
 use mathlib.Core.Bool.{true}
 use Prim.Native.Nat.{_≤_, _-_}
-use borrow.Author.Needs.{needs}
 use native.Mathlib.Omega.{arith}
 use Rattle.paper.specs.Lists.{allBelow}
 use Rattle.paper.specs.Tables.{nextFits}
@@ -18,29 +17,29 @@ abbrev μ-loop : tie.MeasureT-loop
 μ-loop rows count m top s x₀ x = m - x
 
 grade-at-requires : tie.Need-grade-at-requires Inv-loop μ-loop
-grade-at-requires c κs = search needs
+grade-at-requires c κs = search
 
 returns : tie.Need-returns Inv-loop μ-loop
 returns c = bad-grade _ _ _ _ _ (omega arith)
 
 loop-holds : tie.Need-loop-holds Inv-loop μ-loop
 unfolding allBelow
-loop-holds c = (search needs, refl)
+loop-holds c = (omega arith, refl)
 
 next-at-requires : tie.Need-next-at-requires Inv-loop μ-loop
-next-at-requires c κs = search needs
+next-at-requires c κs = search
 
 returns-2 : tie.Need-returns-2 Inv-loop μ-loop
-returns-2 c = bad-next _ _ _ _ _ (c .before .before .before .loop .x) (search needs) (omega arith)
+returns-2 c = bad-next _ _ _ _ _ (c .before .before .before .loop .x) (search) (omega arith)
 
 add-x : tie.Need-add-x Inv-loop μ-loop
-add-x c = search needs
+add-x c = omega arith
 
 loop-less : tie.Need-loop-less Inv-loop μ-loop
-loop-less c = search needs
+loop-less c = omega arith
 
 loop-again : tie.Need-loop-again Inv-loop μ-loop
-loop-again c = (search needs, more-next _ _ _ 0 _ _ (c .before .before .before .loop .inv .1) (omega arith))
+loop-again c = (omega arith, more-next _ _ _ 0 _ _ (c .before .before .before .loop .inv .1) (omega arith))
 
 returns-3 : tie.Need-returns-3 Inv-loop μ-loop
 returns-3 c = good-row _ _ _ _ _ (c .before .loop .x) (omega arith) (c .before .loop .inv .1) (omega arith)

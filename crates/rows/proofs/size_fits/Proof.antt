@@ -1,6 +1,5 @@
 -- `rows::size_fits` meets its contract: each return is what the tests on its way make of `sizeFits`.
 -- Assumes nothing.
-use borrow.Author.Needs.{needs}
 use borrow.Author.Tests.{le-leb, lt-leb}
 use native.Mathlib.Omega.{arith}
 use Prim.Native.Nat.{_+_, _*_}
@@ -28,10 +27,10 @@ returns-4 c =
     simp (le-leb 1 _ (c .before .before .before .if1 .left), le-leb _ 4096 (c .before .before .if2 .left), le-leb 1 _ (c .before .if3 .left), lt-leb _ 16 (c .if4 .taken))
 
 mul-result : tie.Need-mul-result
-mul-result c = search needs
+mul-result c = omega arith
 
 add-result : tie.Need-add-result
-add-result c = search needs
+add-result c = omega arith
 
 mul-result-2 : tie.Need-mul-result-2
 mul-result-2 c =

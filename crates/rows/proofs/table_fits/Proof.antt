@@ -1,6 +1,5 @@
 -- `rows::table_fits` meets its contract. The loop's invariant: the rows passed fit.
 -- Assumes nothing.
-use borrow.Author.Needs.{needs}
 use mathlib.Core.Path.{_≡_, refl}
 use mathlib.Core.Bool.{true}
 use Prim.Native.Nat.{_≤_, _-_}
@@ -20,31 +19,31 @@ abbrev μ-loop : tie.MeasureT-loop
 μ-loop rows count m top s₀ s = count - s
 
 size-fits-requires : tie.Need-size-fits-requires Inv-loop μ-loop
-size-fits-requires c κs = search needs
+size-fits-requires c κs = search
 
 returns : tie.Need-returns Inv-loop μ-loop
 returns c = table-size _ _ _ _ (fell (c .before .size-fits .ensures) (c .if1 .taken))
 
 loop-holds : tie.Need-loop-holds Inv-loop μ-loop
 unfolding allBelow
-loop-holds c = (search needs, held (c .before .size-fits .ensures) (c .if1 .left), refl)
+loop-holds c = (omega arith, held (c .before .size-fits .ensures) (c .if1 .left), refl)
 
 row-fits-requires : tie.Need-row-fits-requires Inv-loop μ-loop
-row-fits-requires c κs = row-in _ _ _ _ (c .before .loop .inv .1) (search needs)
+row-fits-requires c κs = row-in _ _ _ _ (c .before .loop .inv .1) (search)
 
 returns-2 : tie.Need-returns-2 Inv-loop μ-loop
-returns-2 c = table-row _ _ _ _ (c .before .before .before .loop .s) (c .before .before .before .loop .inv .1) (search needs) (fell (c .before .row-fits .ensures) (c .if2 .taken))
+returns-2 c = table-row _ _ _ _ (c .before .before .before .loop .s) (c .before .before .before .loop .inv .1) (search) (fell (c .before .row-fits .ensures) (c .if2 .taken))
 
 add-s : tie.Need-add-s Inv-loop μ-loop
-add-s c = search needs
+add-s c = omega arith
 
 loop-less : tie.Need-loop-less Inv-loop μ-loop
-loop-less c = search needs
+loop-less c = omega arith
 
 loop-again : tie.Need-loop-again Inv-loop μ-loop
 loop-again c =
     let l = c .before .before .before .loop in
-    (search needs, l .inv .1, all-more _ _ (l .inv .2) (held (c .before .row-fits .ensures) (c .if2 .left)))
+    (omega arith, l .inv .1, all-more _ _ (l .inv .2) (held (c .before .row-fits .ensures) (c .if2 .left)))
 
 returns-3 : tie.Need-returns-3 Inv-loop μ-loop
 returns-3 c = table-good _ _ _ _ (c .before .loop .s) (c .before .loop .inv .1) (omega arith) (c .before .loop .inv .2)

@@ -4,7 +4,6 @@ use mathlib.Core.Logic.{⊎-elim}
 use Prim.Native.Nat.{_-_}
 use native.Mathlib.Omega.{arith}
 use Rattle.search.proofs.Found.{Down, down-start, down-here, down-past, down-less, down-none, down-found, valued-less, place-small}
-use borrow.Author.Needs.{needs}
 use Rattle.search.proofs.find.Statement.{statement}
 use Rattle.search.proofs.find.Tie as tie
 use Rattle.search.proofs.find.Reads as reads
@@ -26,7 +25,7 @@ loop-holds : tie.Need-loop-holds Inv-loop μ-loop
 loop-holds c = let b = c .before .before .before .before .before .before .before in down-start (b .pre .1) (b .pre .3) (c .last-with .ensures)
 
 sub-s : tie.Need-sub-s Inv-loop μ-loop
-sub-s c = search needs
+sub-s c = omega arith
 
 mul-has-key : tie.Need-mul-has-key Inv-loop μ-loop
 mul-has-key c = let b = c .before .before .before .before .before .before .before .before .before .before in omega (arith, place-small (b .pre .0) (c .before .before .loop .p - 1) (omega (arith, c .before .before .loop .inv .on .low, b .pre .2)))
@@ -38,16 +37,16 @@ earlier-requires : tie.Need-earlier-requires Inv-loop μ-loop
 earlier-requires c κs = omega (arith, c .before .before .before .before .loop .inv .on .low, c .before .before .before .before .before .before .before .before .before .before .before .before .pre .1 .chained .linked)
 
 loop-less : tie.Need-loop-less Inv-loop μ-loop
-loop-less c = let b = c .before .before .before .before .before .before .before .before .before .before .before .before .before in down-less (b .pre .1) (b .pre .3) (c .before .before .before .before .before .loop .inv) (search needs) (c .earlier .ensures)
+loop-less c = let b = c .before .before .before .before .before .before .before .before .before .before .before .before .before in down-less (b .pre .1) (b .pre .3) (c .before .before .before .before .before .loop .inv) (omega arith) (c .earlier .ensures)
 
 loop-again : tie.Need-loop-again Inv-loop μ-loop
-loop-again c = let b = c .before .before .before .before .before .before .before .before .before .before .before .before .before in let l = c .before .before .before .before .before .loop in ⊎-elim (λ w. down-here (b .pre .1) (b .pre .3) (l .inv) (search needs) (c .earlier .ensures) (w .1) (c .before .before .has-key .ensures) (w .0 .taken)) (λ w. down-past (b .pre .1) (b .pre .3) (l .inv) (search needs) (c .earlier .ensures) (w .1) (c .before .before .has-key .ensures) (w .0 .left)) (c .before .if1 .came)
+loop-again c = let b = c .before .before .before .before .before .before .before .before .before .before .before .before .before in let l = c .before .before .before .before .before .loop in ⊎-elim (λ w. down-here (b .pre .1) (b .pre .3) (l .inv) (omega arith) (c .earlier .ensures) (w .1) (c .before .before .has-key .ensures) (w .0 .taken)) (λ w. down-past (b .pre .1) (b .pre .3) (l .inv) (omega arith) (c .earlier .ensures) (w .1) (c .before .before .has-key .ensures) (w .0 .left)) (c .before .if1 .came)
 
 returns : tie.Need-returns Inv-loop μ-loop
-returns c = let b = c .before .before .before .before .before .before .before .before .before .before in let l = c .before .before .loop in down-none (b .pre .1) (b .pre .3) (l .inv) (search needs) (c .if2 .taken)
+returns c = let b = c .before .before .before .before .before .before .before .before .before .before in let l = c .before .before .loop in down-none (b .pre .1) (b .pre .3) (l .inv) (search) (c .if2 .taken)
 
 returns-2 : tie.Need-returns-2 Inv-loop μ-loop
-returns-2 c = let b = c .before .before .before .before .before .before .before .before .before .before in let l = c .before .before .loop in down-found (b .pre .1) (b .pre .3) (l .inv) (search needs) (c .if2 .left)
+returns-2 c = let b = c .before .before .before .before .before .before .before .before .before .before in let l = c .before .before .loop in down-found (b .pre .1) (b .pre .3) (l .inv) (search) (c .if2 .left)
 
 pub find-spec : {M : Type 1} → statement M
 find-spec =

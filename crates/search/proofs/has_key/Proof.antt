@@ -2,7 +2,6 @@ use native.Mathlib.Omega.{arith}
 use denote.Ref.{now}
 use Rattle.marks.proofs.MarkLaws.{unmarked}
 use Rattle.search.proofs.Found.{value-taken, told, place-inside}
-use borrow.Author.Needs.{needs}
 use Rattle.search.proofs.has_key.Statement.{statement}
 use Rattle.search.proofs.has_key.Tie as tie
 use Rattle.search.proofs.has_key.Reads as reads
@@ -10,7 +9,7 @@ use Rattle.search.proofs.has_key.Lts as lts
 use Rattle.keys.proofs.same_by.Reads as same-by-reads
 
 mul-if1 : tie.Need-mul-if1
-mul-if1 c = search needs
+mul-if1 c = omega arith
 
 shared-slice-read-if1 : tie.Need-shared-slice-read-if1
 shared-slice-read-if1 c = omega (arith, c .before .before .before .before .before .pre .1 .roomy, c .before .before .before .before .before .pre .2)
@@ -22,10 +21,10 @@ add-to : tie.Need-add-to
 add-to c = let b = c .before .before .before .before .before .before .before in omega (arith, place-inside (b .pre .1) (b .args .s) (b .pre .2), b .pre .3, b .pre .0 .inside)
 
 sub-same-by : tie.Need-sub-same-by
-sub-same-by c = search needs
+sub-same-by c = omega arith
 
 part-same-by-start : tie.Need-part-same-by-start
-part-same-by-start c = search needs
+part-same-by-start c = omega arith
 
 part-same-by-end : tie.Need-part-same-by-end
 part-same-by-end c = let b = c .before .before .before .before .before .before .before in omega (arith, place-inside (b .pre .1) (b .args .s) (b .pre .2), b .pre .3, b .pre .0 .inside)

@@ -6,7 +6,6 @@ use denote.Ref.{now}
 use Rattle.kinds.proofs.Keys.{key-front, length-key}
 use Rattle.kinds.proofs.KindLaws.{keyed-is, key-asks, key-small}
 use Rattle.search.proofs.Found.{place-inside, place-small, candidate, key-reduced, size-reduced, key-itself, size-itself}
-use borrow.Author.Needs.{needs}
 use Rattle.search.proofs.seek.Statement.{statement}
 use Rattle.search.proofs.seek.Tie as tie
 use Rattle.search.proofs.seek.Reads as reads
@@ -22,19 +21,19 @@ add-to : tie.Need-add-to
 add-to c = let b = c .before .before .before .before .before .before .before in omega (arith, place-inside (b .pre .1 .valued) (b .args .held) (b .pre .2), b .pre .0 .inside)
 
 sub-v : tie.Need-sub-v
-sub-v c = search needs
+sub-v c = omega arith
 
 part-v-start : tie.Need-part-v-start
-part-v-start c = search needs
+part-v-start c = omega arith
 
 part-v-end : tie.Need-part-v-end
 part-v-end c = let b = c .before .before .before .before .before .before .before in omega (arith, place-inside (b .pre .1 .valued) (b .args .held) (b .pre .2), b .pre .0 .inside)
 
 keyed-requires : tie.Need-keyed-requires
-keyed-requires c κs = search needs
+keyed-requires c κs = search
 
 slice-aggregate-put-key : tie.Need-slice-aggregate-put-key
-slice-aggregate-put-key c = search needs
+slice-aggregate-put-key c = search
 
 put-key-requires : tie.Need-put-key-requires
 put-key-requires c κs = let b = c .before .before .before .before .before .before .before .before .before .before .before in key-asks (b .pre .0) (keyed-is _ (sym (c .before .before .keyed .ensures) ∙ c .before .if1 .taken)) (candidate (b .args .plan) (now (b .args .vectors)) (b .args .held) (b .pre .3))
@@ -55,13 +54,13 @@ look-requires : tie.Need-look-requires
 look-requires c κs = let b = c .before .before .before .before .before .before .before .before .before .before .before .before .before .before .before .before .before .before in (b .pre .0, b .pre .1, b .pre .2, b .pre .3, key-reduced (b .args .plan) (now (b .args .vectors)) (b .args .held) (now (b .args .chart)) (keyed-is _ (sym (c .before .before .before .before .before .before .before .before .before .keyed .ensures) ∙ c .before .before .before .before .before .before .before .before .if1 .taken)) (key-front (b .pre .0 .shaped) _ _ (c .before .before .before .before .before .before .put-key .ensures)), size-reduced (b .args .plan) (now (b .args .vectors)) (b .args .held) (now (b .args .chart)) (keyed-is _ (sym (c .before .before .before .before .before .before .before .before .before .keyed .ensures) ∙ c .before .before .before .before .before .before .before .before .if1 .taken)) (key-front (b .pre .0 .shaped) _ _ (c .before .before .before .before .before .before .put-key .ensures)) (b .pre .0 .shaped))
 
 same-length : tie.Need-same-length
-same-length c = search needs
+same-length c = search
 
 same-length-2 : tie.Need-same-length-2
-same-length-2 c = search needs
+same-length-2 c = search
 
 same-length-3 : tie.Need-same-length-3
-same-length-3 c = search needs
+same-length-3 c = search
 
 returns : tie.Need-returns
 returns c = c .before .before .before .before .before .before .look .ensures
@@ -70,13 +69,13 @@ look-requires-2 : tie.Need-look-requires-2
 look-requires-2 c κs = let b = c .before .before .before .before .before .before .before .before .before .before .before .before .before in (b .pre .0, b .pre .1, b .pre .2, b .pre .3, key-itself (b .args .plan) (now (b .args .vectors)) (b .args .held) (now (b .args .chart)) (sym (c .before .before .before .before .keyed .ensures) ∙ c .before .before .before .if1 .left), size-itself (b .args .plan) (now (b .args .vectors)) (b .args .held) (now (b .args .chart)) (sym (c .before .before .before .before .keyed .ensures) ∙ c .before .before .before .if1 .left) (b .pre .3))
 
 same-length-4 : tie.Need-same-length-4
-same-length-4 c = search needs
+same-length-4 c = search
 
 same-length-5 : tie.Need-same-length-5
-same-length-5 c = search needs
+same-length-5 c = search
 
 same-length-6 : tie.Need-same-length-6
-same-length-6 c = search needs
+same-length-6 c = search
 
 returns-2 : tie.Need-returns-2
 returns-2 c = c .before .before .before .before .before .before .look2 .ensures

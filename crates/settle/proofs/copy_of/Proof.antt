@@ -17,25 +17,25 @@ abbrev μ-loop : tie.MeasureT-loop
 μ-loop vectors from w copy₀ j₀ copy j = w - j
 
 loop-holds : tie.Need-loop-holds Inv-loop μ-loop
-loop-holds c = (search needs, refl, refl)
+loop-holds c = (omega arith, refl, refl)
 
 add-copy : tie.Need-add-copy Inv-loop μ-loop
-add-copy c = search needs
+add-copy c = omega arith
 
 shared-slice-read-copy : tie.Need-shared-slice-read-copy Inv-loop μ-loop
-shared-slice-read-copy c = search needs
+shared-slice-read-copy c = omega arith
 
 array-write-copy : tie.Need-array-write-copy Inv-loop μ-loop
-array-write-copy c = search needs
+array-write-copy c = omega arith
 
 add-j : tie.Need-add-j Inv-loop μ-loop
-add-j c = search needs
+add-j c = omega arith
 
 loop-less : tie.Need-loop-less Inv-loop μ-loop
-loop-less c = search needs
+loop-less c = omega arith
 
 loop-again : tie.Need-loop-again Inv-loop μ-loop
-loop-again c = let l = c .before .before .loop in (search needs, search needs, copy-more (l .copy) (now (c .before .before .before .args .vectors)) (c .before .before .before .args .from) (l .j) (search needs) (search needs) (l .inv .2) refl)
+loop-again c = let l = c .before .before .loop in (omega arith, search needs, copy-more (l .copy) (now (c .before .before .before .args .vectors)) (c .before .before .before .args .from) (l .j) (omega arith) (omega arith) (l .inv .2) refl)
 
 returns : tie.Need-returns Inv-loop μ-loop
 returns c = let e : c .before .loop .j ≡ c .before .before .args .w = omega arith in rw (← e) (c .before .loop .inv .2)

@@ -9,16 +9,16 @@ use Rattle.settle.proofs.put_two.Reads as reads
 use Rattle.settle.proofs.put_two.Lts as lts
 
 cast-row : tie.Need-cast-row
-cast-row c = search needs
+cast-row c = omega arith
 
 slice-write-row : tie.Need-slice-write-row
-slice-write-row c = search needs
+slice-write-row c = omega arith
 
 cast-row-2 : tie.Need-cast-row-2
-cast-row-2 c = search needs
+cast-row-2 c = omega arith
 
 add-row : tie.Need-add-row
-add-row c = search needs
+add-row c = omega arith
 
 slice-write-row-2 : tie.Need-slice-write-row-2
 slice-write-row-2 c = simp length-set (omega arith)

@@ -2,18 +2,17 @@
 use Rattle.lists.proofs.Tests.{fell, held}
 use Rattle.chart.proofs.Checked.{shaped}
 use Rattle.sheets.proofs.Answers.{readable, chart-refused, table-refused, sheet-refused, pairs-said}
-use borrow.Author.Needs.{needs}
 use Rattle.sheets.proofs.check_sheet.Statement.{statement}
 use Rattle.sheets.proofs.check_sheet.Tie as tie
 
 check-requires : tie.Need-check-requires
-check-requires c κs = search needs
+check-requires c κs = search
 
 enum-known-why : tie.Need-enum-known-why
-enum-known-why c = search needs
+enum-known-why c = search
 
 enum-known-shape : tie.Need-enum-known-shape
-enum-known-shape c = search needs
+enum-known-shape c = search
 
 table-fits-chart-requires : tie.Need-table-fits-chart-requires
 table-fits-chart-requires c κs = shaped _ (c .before .before .before .check .ensures) (c .before .shape .given .1)

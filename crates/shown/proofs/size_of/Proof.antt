@@ -1,14 +1,13 @@
 -- `shown::size_of` meets its contract. Assumes nothing.
 use Rattle.shown.proofs.Printed.{size-known, size-refused}
-use borrow.Author.Needs.{needs}
 use Rattle.shown.proofs.size_of.Statement.{statement}
 use Rattle.shown.proofs.size_of.Tie as tie
 
 enum-known-written : tie.Need-enum-known-written
-enum-known-written c = search needs
+enum-known-written c = search
 
 enum-told : tie.Need-enum-told
-enum-told c = search needs
+enum-told c = search
 
 returns : tie.Need-returns
 returns c = size-known (c .before .written .given .1)

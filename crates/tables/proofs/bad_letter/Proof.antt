@@ -1,6 +1,5 @@
 -- `tables::bad_letter` meets its contract. The loop's invariant: the letters passed are below m.
 -- Assumes nothing.
-use borrow.Author.Needs.{needs}
 use mathlib.Core.Path.{_≡_, refl}
 use mathlib.Core.Bool.{true}
 use Prim.Native.Nat.{_≤_, _-_}
@@ -21,27 +20,27 @@ abbrev μ-loop : tie.MeasureT-loop
 
 loop-holds : tie.Need-loop-holds Inv-loop μ-loop
 unfolding allBelow
-loop-holds c = (search needs, refl)
+loop-holds c = (omega arith, refl)
 
 shared-slice-read-wide : tie.Need-shared-slice-read-wide Inv-loop μ-loop
-shared-slice-read-wide c = search needs
+shared-slice-read-wide c = search
 
 wide-requires : tie.Need-wide-requires Inv-loop μ-loop
-wide-requires c κs = search needs
+wide-requires c κs = search
 
 returns : tie.Need-returns Inv-loop μ-loop
 returns c =
     let l = c .before .before .before .before .loop in
-    answered-at _ _ (l .i) (bad-is _ _ _ (search needs) (l .inv .1) (omega arith)) (search needs)
+    answered-at _ _ (l .i) (bad-is _ _ _ (search) (l .inv .1) (omega arith)) (search)
 
 add-i : tie.Need-add-i Inv-loop μ-loop
-add-i c = search needs
+add-i c = omega arith
 
 loop-less : tie.Need-loop-less Inv-loop μ-loop
-loop-less c = search needs
+loop-less c = omega arith
 
 loop-again : tie.Need-loop-again Inv-loop μ-loop
-loop-again c = (search needs, more-letter _ _ _ (c .before .before .before .before .loop .inv .1) (omega arith))
+loop-again c = (omega arith, more-letter _ _ _ (c .before .before .before .before .loop .inv .1) (omega arith))
 
 returns-2 : tie.Need-returns-2 Inv-loop μ-loop
 returns-2 c = answered-none _ _ (bad-none _ _ (c .before .loop .i) (omega arith) (c .before .loop .inv .1))

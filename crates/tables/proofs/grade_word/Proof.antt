@@ -1,25 +1,24 @@
 -- `tables::grade_word` meets its contract: each return is what the tests on its way make of `wordReply`.
 -- Assumes nothing.
-use borrow.Author.Needs.{needs}
 use Rattle.lists.proofs.Tests.{fell, held}
 use Rattle.tables.proofs.Walks.{word-table, word-letter, word-walkable, word-grade}
 use Rattle.tables.proofs.grade_word.Statement.{statement}
 use Rattle.tables.proofs.grade_word.Tie as tie
 
 table-fits-requires : tie.Need-table-fits-requires
-table-fits-requires c κs = search needs
+table-fits-requires c κs = search
 
 returns : tie.Need-returns
 returns c = word-table _ _ _ _ (fell (c .before .table-fits .ensures) (c .if1 .taken))
 
 bad-letter-requires : tie.Need-bad-letter-requires
-bad-letter-requires c κs = search needs
+bad-letter-requires c κs = search
 
 enum-known-i : tie.Need-enum-known-i
-enum-known-i c = search needs
+enum-known-i c = search
 
 enum-told : tie.Need-enum-told
-enum-told c = search needs
+enum-told c = search
 
 walk-requires : tie.Need-walk-requires
 walk-requires c κs =

@@ -1,6 +1,5 @@
 -- `tables::walk` meets its contract. The loop's invariant: the letters that are left lead from s to where the whole word leads from 0.
 -- Assumes nothing.
-use borrow.Author.Needs.{needs}
 use mathlib.Core.Path.{_≡_, refl, _∙_}
 use Prim.Native.Nat.{_≤_, _<_, _-_}
 use native.Mathlib.Omega.{arith}
@@ -19,34 +18,34 @@ abbrev μ-loop : tie.MeasureT-loop
 μ-loop rows count m word s₀ i₀ s i = length word - i
 
 loop-holds : tie.Need-loop-holds Inv-loop μ-loop
-loop-holds c = (c .before .before .pre, search needs, walk-some _ _ _ _ (c .before .before .pre), refl)
+loop-holds c = (c .before .before .pre, omega arith, walk-some _ _ _ _ (c .before .before .pre), refl)
 
 shared-slice-read-wide : tie.Need-shared-slice-read-wide Inv-loop μ-loop
-shared-slice-read-wide c = search needs
+shared-slice-read-wide c = search
 
 wide-requires : tie.Need-wide-requires Inv-loop μ-loop
-wide-requires c κs = search needs
+wide-requires c κs = search
 
 next-at-requires : tie.Need-next-at-requires Inv-loop μ-loop
 next-at-requires c κs =
     let l = c .before .before .before .loop in
-    (walk-row _ _ _ _ (l .inv .0) (l .s) (search needs), omega (arith, walk-letter _ _ _ _ (l .inv .0) (l .i) (search needs)))
+    (walk-row _ _ _ _ (l .inv .0) (l .s) (search), omega (arith, walk-letter _ _ _ _ (l .inv .0) (l .i) (search)))
 
 add-i : tie.Need-add-i Inv-loop μ-loop
-add-i c = search needs
+add-i c = omega arith
 
 loop-less : tie.Need-loop-less Inv-loop μ-loop
-loop-less c = search needs
+loop-less c = omega arith
 
 loop-again : tie.Need-loop-again Inv-loop μ-loop
 loop-again c =
     let l = c .before .before .before .before .loop in
     let q = c .next-at .ensures .0 in
     let x = c .before .wide .ensures .0 in
-    (l .inv .0, search needs, walk-below _ _ _ _ (l .inv .0) (l .s) (l .i) _ _ (search needs) (search needs) x q, walk-more _ _ (l .s) _ (l .i) _ _ _ (search needs) x q (l .inv .3))
+    (l .inv .0, omega arith, walk-below _ _ _ _ (l .inv .0) (l .s) (l .i) _ _ (search) (search) x q, walk-more _ _ (l .s) _ (l .i) _ _ _ (search) x q (l .inv .3))
 
 grade-at-requires : tie.Need-grade-at-requires Inv-loop μ-loop
-grade-at-requires c κs = walk-row _ _ _ _ (c .before .loop .inv .0) (c .before .loop .s) (search needs)
+grade-at-requires c κs = walk-row _ _ _ _ (c .before .loop .inv .0) (c .before .loop .s) (search)
 
 returns : tie.Need-returns Inv-loop μ-loop
 returns c =

@@ -21,52 +21,52 @@ use Rattle.marks.proofs.chains.no_links.Reads as no-links-reads
 use Rattle.marks.proofs.chains.no_marks.Reads as no-marks-reads
 
 no-heads-requires : tie.Need-no-heads-requires
-no-heads-requires c κs = search needs
+no-heads-requires c κs = search
 
 no-links-requires : tie.Need-no-links-requires
-no-links-requires c κs = search needs
+no-links-requires c κs = search
 
 no-marks-requires : tie.Need-no-marks-requires
-no-marks-requires c κs = search needs
+no-marks-requires c κs = search
 
 put-first-requires : tie.Need-put-first-requires
 put-first-requires c κs = search needs
 
 slice-aggregate-seek : tie.Need-slice-aggregate-seek
-slice-aggregate-seek c = search needs
+slice-aggregate-seek c = omega arith
 
 slice-aggregate-seek-2 : tie.Need-slice-aggregate-seek-2
-slice-aggregate-seek-2 c = search needs
+slice-aggregate-seek-2 c = search
 
 slice-aggregate-seek-3 : tie.Need-slice-aggregate-seek-3
-slice-aggregate-seek-3 c = search needs
+slice-aggregate-seek-3 c = search
 
 seek-requires : tie.Need-seek-requires
 seek-requires c κs = let b = c .before .before .before .before .before .before .before .before .before .before .before .before .before .before .before in (b .pre .ready .sized, none-held _ _ _ _ _ _ (b .pre) (c .before .before .before .before .before .before .put-first .ensures) _ _ _ (c .before .before .before .before .before .before .before .before .before .before .no-heads .ensures) (c .before .before .before .before .before .before .before .before .before .no-links .ensures) (c .before .before .before .before .before .before .before .before .no-marks .ensures), omega arith, first-value _ _ _ _ _ _ (b .pre) (c .before .before .before .before .before .before .put-first .ensures))
 
 slice-aggregate-walk : tie.Need-slice-aggregate-walk
-slice-aggregate-walk c = search needs
+slice-aggregate-walk c = search
 
 slice-aggregate-walk-2 : tie.Need-slice-aggregate-walk-2
-slice-aggregate-walk-2 c = search needs
+slice-aggregate-walk-2 c = search
 
 slice-aggregate-walk-3 : tie.Need-slice-aggregate-walk-3
-slice-aggregate-walk-3 c = search needs
+slice-aggregate-walk-3 c = search
 
 walk-requires : tie.Need-walk-requires
 walk-requires c κs = let b = c .before .before .before .before .before .before .before .before .before .before .before .before .before .before .before .before .before .before .before .before .before .before .before .before in one-held _ _ _ _ _ _ (b .pre) (c .before .before .before .before .before .before .before .before .before .before .before .before .before .before .before .put-first .ensures) _ _ (c .before .before .before .before .before .before .before .before .seek .ensures)
 
 enum-known-held : tie.Need-enum-known-held
-enum-known-held c = search needs
+enum-known-held c = search
 
 enum-told : tie.Need-enum-told
-enum-told c = search needs
+enum-told c = search
 
 same-length : tie.Need-same-length
-same-length c = search needs
+same-length c = search
 
 same-length-2 : tie.Need-same-length-2
-same-length-2 c = search needs
+same-length-2 c = omega arith
 
 returns : tie.Need-returns
 returns c = let b = c .before .before .before .before .before .before .before .before .before .before .before .before .before .before .before .before .before .before .before .before .before .before .before .before .before .before .before .before .before .before .before .before .before .before in made-full _ _ _ _ _ _ (b .pre) (c .before .before .before .before .before .before .before .before .before .before .before .before .before .before .before .before .before .before .before .before .before .before .before .before .before .put-first .ensures) _ _ (c .before .before .before .before .before .before .before .before .before .walk .result) (c .before .before .before .before .before .before .before .before .before .walk .ensures) (c .enum-told .given .1)
@@ -90,10 +90,10 @@ part-zero-end : tie.Need-part-zero-end
 part-zero-end c = let b = c .before .before .before .before .before .before .before .before .before .before .before .before .before .before .before .before .before .before .before .before .before .before .before .before .before .before .before .before .before .before .before .before .before .before .before .before .before .before in rw add-one (fits-still _ _ _ _ _ _ (b .pre) (c .before .before .before .before .before .before .before .before .before .before .before .before .before .before .before .before .before .before .before .before .before .before .before .before .before .before .before .before .before .put-first .ensures) _ _ (c .before .before .before .before .before .before .before .before .before .before .before .before .before .walk .result) (c .before .before .before .before .before .before .before .before .before .before .before .before .before .walk .ensures) _ (c .before .before .before .before .held .given .1))
 
 zero-requires : tie.Need-zero-requires
-zero-requires c κs = search needs
+zero-requires c κs = search
 
 same-length-3 : tie.Need-same-length-3
-same-length-3 c = search needs
+same-length-3 c = search
 
 same-length-4 : tie.Need-same-length-4
 same-length-4 c = let b = c .before .before .before .before .before .before .before .before .before .before .before .before .before .before .before .before .before .before .before .before .before .before .before .before .before .before .before .before .before .before .before .before .before .before .before .before .before .before .before .before .before .before in same-len-mid (c .before .before .before .before .before .before .before .before .held .given .0 .0 * b .args .plan .stride) ((b .args .plan .room + 1) * b .args .plan .stride - c .before .before .before .before .before .before .before .before .held .given .0 .0 * b .args .plan .stride) (c .before .before .before .before .before .before .before .before .before .before .before .before .before .before .before .before .before .walk .last .1 .1 .1 .1 .0) (c .before .before .zero .last .0) (c .before .before .zero .kept .0) ∙ c .before .before .before .before .before .before .before .before .before .before .before .before .before .before .before .before .before .walk .kept .1 .1 .1 .1 .0 ∙ c .before .before .before .before .before .before .before .before .before .before .before .before .before .before .before .before .before .before .before .before .before .before .before .before .before .before .before .before .before .before .before .before .before .put-first .kept .1 .1 .1 .0

@@ -1,15 +1,14 @@
 -- `bench::reader::read_letter` meets its contract: the answer of `steps::step`, and the state that this answer leaves. Assumes nothing.
-use borrow.Author.Needs.{needs}
 use mathlib.Core.Path.{_∙_, ap}
 use Rattle.paper.specs.Tables.{stateAfter, readerTakes}
 use Rattle.bench.proofs.reader.read_letter.Statement.{statement}
 use Rattle.bench.proofs.reader.read_letter.Tie as tie
 
 step-requires : tie.Need-step-requires
-step-requires c κs = search needs
+step-requires c κs = search
 
 state-after-requires : tie.Need-state-after-requires
-state-after-requires c κs = search needs
+state-after-requires c κs = search
 
 returns : tie.Need-returns
 unfolding readerTakes

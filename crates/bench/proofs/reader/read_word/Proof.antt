@@ -1,6 +1,5 @@
 -- `bench::reader::read_word` meets its contract. The loop's invariant: the letters that are left lead the reader from its state to where the whole word leads it from 0.
 -- Assumes nothing.
-use borrow.Author.Needs.{needs}
 use mathlib.Core.Path.{_≡_, refl, ap, _∙_}
 use Prim.Native.Nat.{_≤_, _-_}
 use native.Mathlib.Omega.{arith}
@@ -19,30 +18,30 @@ abbrev μ-loop : tie.MeasureT-loop
 
 loop-holds : tie.Need-loop-holds Inv-loop μ-loop
 unfolding readerState
-loop-holds c = (search needs, refl)
+loop-holds c = (omega arith, refl)
 
 shared-slice-read-after-letter : tie.Need-shared-slice-read-after-letter Inv-loop μ-loop
-shared-slice-read-after-letter c = search needs
+shared-slice-read-after-letter c = search
 
 cast-after-letter : tie.Need-cast-after-letter Inv-loop μ-loop
 cast-after-letter c = omega (arith, c .shared-slice-known3 .given (c .before .before .loop .i))
 
 after-letter-requires : tie.Need-after-letter-requires Inv-loop μ-loop
-after-letter-requires c κs = search needs
+after-letter-requires c κs = search
 
 add-i : tie.Need-add-i Inv-loop μ-loop
-add-i c = search needs
+add-i c = omega arith
 
 loop-less : tie.Need-loop-less Inv-loop μ-loop
-loop-less c = search needs
+loop-less c = omega arith
 
 loop-again : tie.Need-loop-again Inv-loop μ-loop
 loop-again c =
     let l = c .before .before .before .loop in
-    (search needs, read-more _ _ (l .state) (l .i) _ _ _ (search needs) refl (c .after-letter .ensures) (l .inv .1))
+    (omega arith, read-more _ _ (l .state) (l .i) _ _ _ (search) refl (c .after-letter .ensures) (l .inv .1))
 
 grade-at-requires : tie.Need-grade-at-requires Inv-loop μ-loop
-grade-at-requires c κs = search needs
+grade-at-requires c κs = search
 
 returns : tie.Need-returns Inv-loop μ-loop
 returns c =

@@ -1,17 +1,17 @@
 -- `bench::reader::state_after` meets its contract: each arm is the state of its case. Assumes nothing.
-use borrow.Author.Needs.{needs}
+use native.Mathlib.Omega.{arith}
 use Rattle.bench.proofs.States.{state-given, state-refused}
 use Rattle.bench.proofs.reader.state_after.Statement.{statement}
 use Rattle.bench.proofs.reader.state_after.Tie as tie
 
 enum-known-answer : tie.Need-enum-known-answer
-enum-known-answer c = search needs
+enum-known-answer c = search
 
 cast-result : tie.Need-cast-result
-cast-result c = search needs
+cast-result c = omega arith
 
 enum-told : tie.Need-enum-told
-enum-told c = search needs
+enum-told c = search
 
 returns : tie.Need-returns
 returns c = state-given _ _ _ (c .before .answer .given .1)

@@ -1,6 +1,6 @@
 -- `card::inner::cap_of` meets its contract. The loop's invariant: the grades of s states are joined.
 -- Assumes nothing.
-use borrow.Author.Needs.{needs}
+use native.Mathlib.Omega.{arith}
 use Prim.Native.Nat.{_-_}
 use Rattle.card.proofs.Caps.{row-beside, grade-beside, Joined, join-none, join-more, join-all}
 use Rattle.card.proofs.inner.cap_of.Statement.{statement}
@@ -22,10 +22,10 @@ join-requires : tie.Need-join-requires Inv-loop μ-loop
 join-requires c κs = (c .before .before .loop .inv .beside .shaped, c .before .before .loop .inv .below, grade-beside (c .before .before .loop .inv .beside) (c .before .loop-test .taken) (c .grade-at .ensures))
 
 add-s : tie.Need-add-s Inv-loop μ-loop
-add-s c = search needs
+add-s c = omega arith
 
 loop-less : tie.Need-loop-less Inv-loop μ-loop
-loop-less c = search needs
+loop-less c = omega arith
 
 loop-again : tie.Need-loop-again Inv-loop μ-loop
 loop-again c = join-more (c .before .before .before .loop .inv) (c .before .before .loop-test .taken) (c .before .grade-at .ensures) (c .join .ensures)

@@ -1,6 +1,5 @@
 -- `chart::sizes::sizes_fit` meets its contract: the sizes are in range exactly where no test returned. Assumes nothing.
 use native.Mathlib.Omega.{arith}
-use borrow.Author.Needs.{needs}
 use Rattle.chart.proofs.Ranges.{sizes-pass, sizes-fail}
 use Rattle.chart.proofs.sizes.sizes_fit.Statement.{statement}
 use Rattle.chart.proofs.sizes.sizes_fit.Tie as tie
@@ -27,7 +26,7 @@ returns-7 : tie.Need-returns-7
 returns-7 c = sizes-fail _ _ _ _ (λ s. omega arith)
 
 returns-8 : tie.Need-returns-8
-returns-8 c = sizes-pass (search needs)
+returns-8 c = sizes-pass (search)
 
 pub sizes-fit-spec : {M : Type 1} → statement M
 sizes-fit-spec =

@@ -1,31 +1,30 @@
 -- `frames::digits::byte_at` meets its contract.
 -- Assumes nothing.
-use borrow.Author.Needs.{needs}
 use native.Mathlib.Omega.{arith}
 use Rattle.frames.proofs.Hex.{byte-is}
 use Rattle.frames.proofs.digits.byte_at.Statement.{statement}
 use Rattle.frames.proofs.digits.byte_at.Tie as tie
 
 char-at-requires : tie.Need-char-at-requires
-char-at-requires c κs = search needs
+char-at-requires c κs = search
 
 digit-requires : tie.Need-digit-requires
-digit-requires c κs = search needs
+digit-requires c κs = search
 
 mul-result : tie.Need-mul-result
-mul-result c = search needs
+mul-result c = omega arith
 
 add-char-at : tie.Need-add-char-at
-add-char-at c = search needs
+add-char-at c = omega arith
 
 char-at-requires-2 : tie.Need-char-at-requires-2
-char-at-requires-2 c κs = search needs
+char-at-requires-2 c κs = search
 
 digit-requires-2 : tie.Need-digit-requires-2
-digit-requires-2 c κs = search needs
+digit-requires-2 c κs = search
 
 add-result : tie.Need-add-result
-add-result c = search needs
+add-result c = omega arith
 
 returns : tie.Need-returns
 returns c =

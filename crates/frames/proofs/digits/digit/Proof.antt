@@ -1,16 +1,15 @@
 -- `frames::digits::digit` meets its contract: the ranges of its arms are those of `digitOf`.
 -- Assumes nothing.
-use borrow.Author.Needs.{needs}
 use native.Mathlib.Omega.{arith}
 use Rattle.frames.proofs.Hex.{digit-low, digit-high, digit-below, digit-between, digit-above}
 use Rattle.frames.proofs.digits.digit.Statement.{statement}
 use Rattle.frames.proofs.digits.digit.Tie as tie
 
 sub-result : tie.Need-sub-result
-sub-result c = search needs
+sub-result c = search
 
 sub-result-2 : tie.Need-sub-result-2
-sub-result-2 c = search needs
+sub-result-2 c = omega arith
 
 returns : tie.Need-returns
 returns c = digit-low _ (omega arith) (omega arith)

@@ -1,15 +1,15 @@
 -- `frames::digits::hex` meets its contract.
 -- Assumes nothing.
-use borrow.Author.Needs.{needs}
+use native.Mathlib.Omega.{arith}
 use borrow.Author.Tests.{lt-ltb, le-ltb}
 use Rattle.frames.proofs.digits.hex.Statement.{statement}
 use Rattle.frames.proofs.digits.hex.Tie as tie
 
 add-result : tie.Need-add-result
-add-result c = search needs
+add-result c = omega arith
 
 add-result-2 : tie.Need-add-result-2
-add-result-2 c = search needs
+add-result-2 c = omega arith
 
 returns : tie.Need-returns
 returns c = simp (lt-ltb _ 10 (c .if1 .taken))

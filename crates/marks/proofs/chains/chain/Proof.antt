@@ -1,4 +1,5 @@
 -- `marks::chains::chain` meets its contract. Assumes nothing.
+use native.Mathlib.Omega.{arith}
 use mathlib.Core.Path.{refl}
 use Rattle.marks.proofs.ChainLaws.{chained-more}
 use borrow.Author.Needs.{needs}
@@ -6,37 +7,37 @@ use Rattle.marks.proofs.chains.chain.Statement.{statement}
 use Rattle.marks.proofs.chains.chain.Tie as tie
 
 cast-bucket : tie.Need-cast-bucket
-cast-bucket c = search needs
+cast-bucket c = omega arith
 
 mul-links : tie.Need-mul-links
-mul-links c = search needs
+mul-links c = omega arith
 
 slice-read-links : tie.Need-slice-read-links
-slice-read-links c = search needs
+slice-read-links c = omega arith
 
 mul-links-2 : tie.Need-mul-links-2
-mul-links-2 c = search needs
+mul-links-2 c = omega arith
 
 slice-write-links : tie.Need-slice-write-links
-slice-write-links c = search needs
+slice-write-links c = search
 
 add-heads : tie.Need-add-heads
-add-heads c = search needs
+add-heads c = omega arith
 
 cast-heads : tie.Need-cast-heads
-cast-heads c = search needs
+cast-heads c = omega arith
 
 mul-heads : tie.Need-mul-heads
-mul-heads c = search needs
+mul-heads c = omega arith
 
 slice-write-heads : tie.Need-slice-write-heads
-slice-write-heads c = search needs
+slice-write-heads c = omega arith
 
 mul-marks : tie.Need-mul-marks
-mul-marks c = search needs
+mul-marks c = omega arith
 
 slice-write-marks : tie.Need-slice-write-marks
-slice-write-marks c = search needs
+slice-write-marks c = search
 
 same-length : tie.Need-same-length
 same-length c = search needs

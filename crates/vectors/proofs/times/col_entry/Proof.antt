@@ -1,6 +1,5 @@
 -- `vectors::times::col_entry` meets its contract: a row of a matrix is a part of the chart, combined with the column. Assumes nothing.
 use native.Mathlib.Omega.{arith}
-use borrow.Author.Needs.{needs}
 use Rattle.vectors.proofs.Parts.{row-small, row-inside, row-part}
 use Rattle.vectors.proofs.times.col_entry.Statement.{statement}
 use Rattle.vectors.proofs.times.col_entry.Tie as tie
@@ -21,7 +20,7 @@ grades-from-requires : tie.Need-grades-from-requires
 grades-from-requires c κs = let h = c .before .before .before .before .before .pre in (h .0, row-inside (h .0) _ _ (h .1) (h .3) .0, row-inside (h .0) _ _ (h .1) (h .3) .1)
 
 combine-requires : tie.Need-combine-requires
-combine-requires c κs = search needs
+combine-requires c κs = search
 
 returns : tie.Need-returns
 returns c = row-part (c .before .before .before .before .before .before .before .pre .0) _ _ _ _ (c .before .grades-from .ensures) (c .combine .ensures)

@@ -2,7 +2,6 @@
 use native.Mathlib.Omega.{arith}
 use Prim.Native.Nat.{_≤_, _-_}
 use mathlib.Core.Path.{refl}
-use borrow.Author.Needs.{needs}
 use Rattle.cells.specs.Shaped.{Read}
 use Rattle.paper.specs.Vectors.{joins, combineTerm}
 use Rattle.vectors.proofs.Products.{joins-start, combine-more, combine-end}
@@ -16,28 +15,28 @@ abbrev μ-loop : tie.MeasureT-loop
 μ-loop chart shape v w n sum₀ p₀ sum p = n - p
 
 loop-holds : tie.Need-loop-holds Inv-loop μ-loop
-loop-holds c = (search needs, joins-start _ _ (c .before .before .before .pre .0))
+loop-holds c = (omega arith, joins-start _ _ (c .before .before .before .pre .0))
 
 shared-slice-read-prod : tie.Need-shared-slice-read-prod Inv-loop μ-loop
-shared-slice-read-prod c = search needs
+shared-slice-read-prod c = omega arith
 
 shared-slice-read-prod-2 : tie.Need-shared-slice-read-prod-2 Inv-loop μ-loop
-shared-slice-read-prod-2 c = search needs
+shared-slice-read-prod-2 c = omega arith
 
 prod-requires : tie.Need-prod-requires Inv-loop μ-loop
-prod-requires c κs = let h = c .before .before .before .before .before .before .before .pre in (h .0, h .1 .low _ (search needs), h .2 .low _ (search needs))
+prod-requires c κs = let h = c .before .before .before .before .before .before .before .pre in (h .0, h .1 .low _ (search), h .2 .low _ (search))
 
 join-requires : tie.Need-join-requires Inv-loop μ-loop
 join-requires c κs = (c .before .before .before .before .before .before .before .before .pre .0, c .before .before .before .before .loop .inv .1 .low, c .prod .ensures .low)
 
 add-p : tie.Need-add-p Inv-loop μ-loop
-add-p c = search needs
+add-p c = omega arith
 
 loop-less : tie.Need-loop-less Inv-loop μ-loop
-loop-less c = search needs
+loop-less c = omega arith
 
 loop-again : tie.Need-loop-again Inv-loop μ-loop
-loop-again c = (search needs, combine-more _ _ _ _ (c .before .before .before .before .before .loop .inv .1) refl refl (c .before .prod .ensures .is) (c .join .ensures))
+loop-again c = (omega arith, combine-more _ _ _ _ (c .before .before .before .before .before .loop .inv .1) refl refl (c .before .prod .ensures .is) (c .join .ensures))
 
 returns : tie.Need-returns Inv-loop μ-loop
 returns c = combine-end _ _ _ _ (c .before .before .before .before .before .pre .0) (omega arith) (c .before .loop .inv .1)

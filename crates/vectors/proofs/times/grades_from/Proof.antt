@@ -1,22 +1,21 @@
 -- `vectors::times::grades_from` meets its contract: the part lies within the chart's grades. Assumes nothing.
 use Prim.Native.Nat.{_+_, _-_}
 use native.Mathlib.Omega.{arith}
-use borrow.Author.Needs.{needs}
 use Rattle.vectors.proofs.Parts.{part-from}
 use Rattle.vectors.proofs.times.grades_from.Statement.{statement}
 use Rattle.vectors.proofs.times.grades_from.Tie as tie
 
 add-to : tie.Need-add-to
-add-to c = search needs
+add-to c = omega arith
 
 sub-result : tie.Need-sub-result
-sub-result c = search needs
+sub-result c = omega arith
 
 part-result-start : tie.Need-part-result-start
-part-result-start c = search needs
+part-result-start c = omega arith
 
 part-result-end : tie.Need-part-result-end
-part-result-end c = search needs
+part-result-end c = omega arith
 
 returns : tie.Need-returns
 returns c =

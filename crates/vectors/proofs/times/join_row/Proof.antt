@@ -1,7 +1,6 @@
 -- `vectors::times::join_row` meets its contract. The loop's invariant: the places below q are joined, those behind are as at entry. Assumes nothing.
 use native.Mathlib.Omega.{arith}
 use Prim.Native.Nat.{_-_}
-use borrow.Author.Needs.{needs}
 use Rattle.vectors.proofs.Products.{Joining, joining-start, joining-more, joining-end}
 use Rattle.vectors.proofs.times.join_row.Statement.{statement}
 use Rattle.vectors.proofs.times.join_row.Tie as tie
@@ -16,31 +15,31 @@ loop-holds : tie.Need-loop-holds Inv-loop μ-loop
 loop-holds c = joining-start _ _ _ _ _ _ _ (c .before .before .pre .4)
 
 entry-requires : tie.Need-entry-requires Inv-loop μ-loop
-entry-requires c κs = (c .before .before .before .before .pre .0, search needs, search needs, search needs)
+entry-requires c κs = (c .before .before .before .before .pre .0, search, search, search)
 
 prod-requires : tie.Need-prod-requires Inv-loop μ-loop
-prod-requires c κs = (c .before .before .before .before .before .pre .0, search needs, search needs)
+prod-requires c κs = (c .before .before .before .before .before .pre .0, search, search)
 
 slice-read-join : tie.Need-slice-read-join Inv-loop μ-loop
-slice-read-join c = search needs
+slice-read-join c = omega arith
 
 join-requires : tie.Need-join-requires Inv-loop μ-loop
-join-requires c κs = (c .before .before .before .before .before .before .before .pre .0, c .before .before .before .before .loop .inv .grades .low _ (search needs), c .before .prod .ensures .low)
+join-requires c κs = (c .before .before .before .before .before .before .before .pre .0, c .before .before .before .before .loop .inv .grades .low _ (search), c .before .prod .ensures .low)
 
 slice-write-out : tie.Need-slice-write-out Inv-loop μ-loop
-slice-write-out c = search needs
+slice-write-out c = omega arith
 
 add-q : tie.Need-add-q Inv-loop μ-loop
-add-q c = search needs
+add-q c = omega arith
 
 loop-less : tie.Need-loop-less Inv-loop μ-loop
-loop-less c = search needs
+loop-less c = omega arith
 
 loop-again : tie.Need-loop-again Inv-loop μ-loop
-loop-again c = joining-more _ _ _ _ _ _ _ _ _ (c .before .before .before .before .before .loop .inv) (search needs) (c .before .before .before .entry .ensures .is) (c .before .before .prod .ensures .is) (c .join .ensures)
+loop-again c = joining-more _ _ _ _ _ _ _ _ _ (c .before .before .before .before .before .loop .inv) (search) (c .before .before .before .entry .ensures .is) (c .before .before .prod .ensures .is) (c .join .ensures)
 
 same-length : tie.Need-same-length Inv-loop μ-loop
-same-length c = search needs
+same-length c = search
 
 returns : tie.Need-returns Inv-loop μ-loop
 returns c = joining-end _ _ _ _ _ _ _ _ _ (c .before .loop .inv) (omega arith)

@@ -2,7 +2,6 @@
 use native.Mathlib.Omega.{arith}
 use mathlib.Core.Path.{refl}
 use Prim.Native.Nat.{_-_}
-use borrow.Author.Needs.{needs}
 use Rattle.vectors.proofs.Products.{Rowing, rowing-start, rowing-more, rowing-end}
 use Rattle.vectors.proofs.times.join_rows.Statement.{statement}
 use Rattle.vectors.proofs.times.join_rows.Tie as tie
@@ -17,22 +16,22 @@ loop-holds : tie.Need-loop-holds Inv-loop μ-loop
 loop-holds c = rowing-start _ _ _ _ _ _ (omega (arith, c .before .before .before .pre .0 .sizes .k-low)) (c .before .before .before .pre .3)
 
 shared-slice-read-join-row : tie.Need-shared-slice-read-join-row Inv-loop μ-loop
-shared-slice-read-join-row c = search needs
+shared-slice-read-join-row c = omega arith
 
 join-row-requires : tie.Need-join-row-requires Inv-loop μ-loop
-join-row-requires c κs = let h = c .before .before .before .before .before .before .before .pre in (h .0, h .1, search needs, h .2 .low _ (search needs), c .before .before .before .loop .inv .grades)
+join-row-requires c κs = let h = c .before .before .before .before .before .before .before .pre in (h .0, h .1, search, h .2 .low _ (search), c .before .before .before .loop .inv .grades)
 
 add-p : tie.Need-add-p Inv-loop μ-loop
-add-p c = search needs
+add-p c = omega arith
 
 loop-less : tie.Need-loop-less Inv-loop μ-loop
-loop-less c = search needs
+loop-less c = omega arith
 
 loop-again : tie.Need-loop-again Inv-loop μ-loop
-loop-again c = rowing-more _ _ _ _ _ _ _ _ _ (c .before .before .before .before .before .before .loop .inv) (search needs) refl (c .before .before .join-row .ensures) (search needs)
+loop-again c = rowing-more _ _ _ _ _ _ _ _ _ (c .before .before .before .before .before .before .loop .inv) (search) refl (c .before .before .join-row .ensures) (search)
 
 same-length : tie.Need-same-length Inv-loop μ-loop
-same-length c = search needs
+same-length c = search
 
 returns : tie.Need-returns Inv-loop μ-loop
 returns c = rowing-end _ _ _ _ _ _ _ _ (c .before .loop .inv) (omega arith) (c .before .before .before .before .before .pre .0 .n-is)

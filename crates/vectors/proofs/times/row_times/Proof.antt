@@ -1,25 +1,24 @@
 -- `vectors::times::row_times` meets its contract: the place is zeroed, and the rows are joined over the zeros. Assumes nothing.
 use lib.Seq.{length-take-le}
 use mathlib.Core.Path.{sym}
-use borrow.Author.Needs.{needs}
 use Rattle.vectors.proofs.Products.{blank, row-over}
 use Rattle.vectors.proofs.times.row_times.Statement.{statement}
 use Rattle.vectors.proofs.times.row_times.Tie as tie
 
 slice-relend-prefix-zero : tie.Need-slice-relend-prefix-zero
-slice-relend-prefix-zero c = search needs
+slice-relend-prefix-zero c = search
 
 slice-aggregate-zero : tie.Need-slice-aggregate-zero
 slice-aggregate-zero c = sym (length-take-le _ _ (c .before .before .before .before .pre .3))
 
 zero-requires : tie.Need-zero-requires
-zero-requires c κs = search needs
+zero-requires c κs = search
 
 join-rows-requires : tie.Need-join-rows-requires
 join-rows-requires c κs = let h = c .before .before .before .before .before .before .before .before .pre in (h .0, h .1, h .2, blank _ _ _ (h .3) (c .before .before .before .zero .ensures))
 
 same-length : tie.Need-same-length
-same-length c = search needs
+same-length c = search
 
 returns : tie.Need-returns
 returns c = row-over _ _ _ (c .before .before .before .before .before .before .before .before .before .before .before .pre .3) (c .before .before .before .before .before .before .zero .ensures) _ _ _ _ (c .before .before .before .before .before .before .before .before .before .before .before .pre .0 .n-is) (c .before .before .join-rows .ensures)

@@ -8,7 +8,7 @@ grades-from-requires : tie.Need-grades-from-requires
 grades-from-requires c κs = search needs
 
 combine-requires : tie.Need-combine-requires
-combine-requires c κs = search needs
+combine-requires c κs = search
 
 returns : tie.Need-returns
 returns c = start-part (c .before .before .before .before .pre .0) _ _ (c .before .grades-from .ensures) (c .combine .ensures)

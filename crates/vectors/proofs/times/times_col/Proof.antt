@@ -19,25 +19,25 @@ abbrev μ-loop : tie.MeasureT-loop
 
 loop-holds : tie.Need-loop-holds Inv-loop μ-loop
 unfolding tabulate
-loop-holds c = (search needs, refl, inFront-none _)
+loop-holds c = (omega arith, refl, inFront-none _)
 
 col-entry-requires : tie.Need-col-entry-requires Inv-loop μ-loop
-col-entry-requires c κs = let h = c .before .before .before .before .before .pre in (h .0, h .1, h .2, search needs)
+col-entry-requires c κs = let h = c .before .before .before .before .before .pre in (h .0, h .1, h .2, search)
 
 slice-write-out : tie.Need-slice-write-out Inv-loop μ-loop
-slice-write-out c = search needs
+slice-write-out c = omega arith
 
 add-p : tie.Need-add-p Inv-loop μ-loop
-add-p c = search needs
+add-p c = omega arith
 
 loop-less : tie.Need-loop-less Inv-loop μ-loop
-loop-less c = search needs
+loop-less c = omega arith
 
 loop-again : tie.Need-loop-again Inv-loop μ-loop
-loop-again c = (search needs, search needs, inFront-tabulate _ _ _ (search needs) (c .before .before .loop .inv .2) (c .col-entry .ensures .is))
+loop-again c = (omega arith, search needs, inFront-tabulate _ _ _ (omega arith) (c .before .before .loop .inv .2) (c .col-entry .ensures .is))
 
 same-length : tie.Need-same-length Inv-loop μ-loop
-same-length c = search needs
+same-length c = search
 
 returns : tie.Need-returns Inv-loop μ-loop
 returns c = col-end _ _ _ _ _ _ (c .before .loop .inv .2) (omega arith) (c .before .before .before .before .before .pre .0 .n-is)
