@@ -1,4 +1,6 @@
 // What the three programs print, from a chart's text: a table's text, or one refusal line.
+pub mod print;
+
 use made::build_brz;
 use made::build_nerode;
 use made::build_reduced;

@@ -2,7 +2,7 @@
 use libc::STDIN_FILENO;
 
 fn main() {
-    let mut text = programs::text_buffer();
+    let mut text = answers::print::text_buffer();
     let got = io::read_full(STDIN_FILENO, &mut text);
-    programs::reduced(&text[..got]);
+    answers::print::reduced(&text[..got]);
 }

@@ -1,8 +1,8 @@
 // Prints what the three programs print for each text on standard input, stored as `cases` says.
 fn print_all(text: &[u8]) {
-    programs::nerode(text);
-    programs::reduced(text);
-    programs::brz(text);
+    answers::print::nerode(text);
+    answers::print::reduced(text);
+    answers::print::brz(text);
 }
 
 fn answer_next() {

@@ -1,3 +1,4 @@
+-- `backward::brzozowski` meets its contract. Assumes nothing.
 use Rattle.chart.proofs.Checked.{shaped, fits-fine}
 use Rattle.backward.proofs.Before.{both-refused}
 use Rattle.backward.proofs.brzozowski.Statement.{statement}

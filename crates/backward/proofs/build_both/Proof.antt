@@ -1,3 +1,4 @@
+-- `backward::build_both` meets its contract. Assumes nothing.
 use denote.Ref.{now}
 use Rattle.lists.proofs.Tests.{fell, held}
 use Rattle.backward.proofs.Before.{both-room, rooms-read}

@@ -1,3 +1,4 @@
+-- `backward::rooms_fit` meets its contract. Assumes nothing.
 use native.Mathlib.Omega.{arith}
 use mathlib.Core.Path.{sym}
 use Rattle.lists.proofs.Tests.{fell, held, both-not-right}

@@ -1,3 +1,4 @@
+-- `forward::nerode` meets its contract. Assumes nothing.
 use mathlib.Core.Path.{refl}
 use Rattle.paper.specs.Builders.{nerode}
 use Rattle.chart.proofs.Checked.{shaped, fits-fine}

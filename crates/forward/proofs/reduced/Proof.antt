@@ -1,3 +1,4 @@
+-- `forward::reduced` meets its contract. Assumes nothing.
 use mathlib.Core.Path.{refl}
 use Rattle.paper.specs.Builders.{reduced}
 use Rattle.chart.proofs.Checked.{shaped, fits-fine}

@@ -1,3 +1,4 @@
+-- `key_bytes::put_key` meets its contract. Assumes nothing.
 use borrow.Rule.Slice.PartMut.{same-len-mid}
 use mathlib.Core.Path.{_∙_, ap}
 use native.Mathlib.Nat.{suc-mul}

@@ -1,3 +1,4 @@
+-- `keys::makes` meets its contract. Assumes nothing.
 use native.Mathlib.Omega.{arith}
 use denote.Ref.{now}
 use mathlib.Core.Path.{refl, sym, _∙_}

@@ -1,3 +1,4 @@
+-- `keys::same_by` meets its contract. Assumes nothing.
 use denote.Ref.{now}
 use mathlib.Core.Path.{sym, ap, _∙_}
 use Rattle.paper.specs.Lists.{sameList}

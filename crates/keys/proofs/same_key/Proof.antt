@@ -1,6 +1,8 @@
+-- `keys::same_key` meets its contract. Assumes nothing.
 use native.Mathlib.Omega.{arith}
+use mathlib.Core.Path.{refl}
+use Rattle.kinds.proofs.KindLaws.{as-grades}
 use Rattle.kinds.proofs.Keys.{grade-differs, letters-decide}
-use borrow.Author.Needs.{needs}
 use Rattle.keys.proofs.same_key.Statement.{statement}
 use Rattle.keys.proofs.same_key.Tie as tie
 use Rattle.keys.proofs.same_key.Reads as reads
@@ -12,7 +14,7 @@ mul-last : tie.Need-mul-last
 mul-last c = omega arith
 
 end-grade-requires : tie.Need-end-grade-requires
-end-grade-requires c κs = search needs
+end-grade-requires c κs = let p = c .before .before .before .before .pre in (p .0, as-grades (p .1) refl)
 
 shared-slice-read-if1 : tie.Need-shared-slice-read-if1
 shared-slice-read-if1 c = omega arith

@@ -1,3 +1,4 @@
+-- `keys::same_letters` meets its contract. Assumes nothing.
 use native.Mathlib.Nat.{suc-mul}
 use native.Mathlib.Numerals.{add-one}
 use lib.ListN.{length}

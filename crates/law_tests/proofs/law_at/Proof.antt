@@ -7,7 +7,6 @@ use denote.Ref.{now}
 use Rattle.paper.specs.Chart.{join, prod}
 use Rattle.paper.specs.Check.{laws, lawAt}
 use Rattle.law_tests.proofs.LawTests.{law-by, law-none, associates}
-use borrow.Author.Needs.{needs}
 use Rattle.law_tests.proofs.law_at.Statement.{statement}
 use Rattle.law_tests.proofs.law_at.Tie as tie
 
@@ -33,7 +32,7 @@ join-requires-7 : tie.Need-join-requires-7
 join-requires-7 c κs = let p = c .before .before .before .before .before .pre in (p .0, p .1, c .join6 .ensures .low)
 
 join-requires-8 : tie.Need-join-requires-8
-join-requires-8 c κs = search needs
+join-requires-8 c κs = (search, omega arith, search)
 
 prod-requires : tie.Need-prod-requires
 prod-requires c κs = let p = c .before .before .pre in (p .0, p .1, p .2)

@@ -5,7 +5,6 @@ use Prim.Native.Nat.{ℕ, _-_}
 use denote.Ref.{now}
 use Rattle.paper.specs.Check.{lawAt, lawAtTwo, brokenB, brokenC}
 use Rattle.laws.proofs.Tries.{Tried, tried-none, tried-more, fails-at, fails-nowhere, all-pass, one-fails}
-use borrow.Author.Needs.{needs}
 use Rattle.laws.proofs.first_b.Statement.{statement}
 use Rattle.laws.proofs.first_b.Tie as tie
 
@@ -25,7 +24,7 @@ cast-first-c : tie.Need-cast-first-c Inv-loop μ-loop
 cast-first-c c = omega arith
 
 first-c-requires : tie.Need-first-c-requires Inv-loop μ-loop
-first-c-requires c κs = search needs
+first-c-requires c κs = (search, search, omega arith)
 
 -- the law at a and at the loop's b
 abbrev at-b : tie.At-loop Inv-loop μ-loop → ℕ → Bool

@@ -5,7 +5,6 @@ use Prim.Native.Nat.{_-_}
 use borrow.Author.Tests.{not-true, not-false}
 use Rattle.paper.specs.Check.{lawAt, brokenC}
 use Rattle.laws.proofs.Tries.{Tried, tried-none, tried-more, fails-at, fails-nowhere}
-use borrow.Author.Needs.{needs}
 use Rattle.laws.proofs.first_c.Statement.{statement}
 use Rattle.laws.proofs.first_c.Tie as tie
 
@@ -25,7 +24,7 @@ cast-law-at : tie.Need-cast-law-at Inv-loop μ-loop
 cast-law-at c = omega arith
 
 law-at-requires : tie.Need-law-at-requires Inv-loop μ-loop
-law-at-requires c κs = search needs
+law-at-requires c κs = (search, search, search, omega arith)
 
 returns : tie.Need-returns Inv-loop μ-loop
 unfolding brokenC

@@ -1,3 +1,4 @@
+-- `moves::grade_by` meets its contract. Assumes nothing.
 use Prim.Native.Nat.{_≤_}
 use native.Mathlib.Omega.{arith}
 use Rattle.paper.specs.Constructions.{rowGrade}

@@ -1,3 +1,4 @@
+-- `moves::put_first` meets its contract. Assumes nothing.
 use Rattle.kinds.proofs.KindLaws.{start-front, end-front, start-asks, end-asks}
 use Rattle.moves.proofs.put_first.Statement.{statement}
 use Rattle.moves.proofs.put_first.Tie as tie

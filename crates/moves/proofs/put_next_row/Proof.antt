@@ -1,3 +1,4 @@
+-- `moves::put_next_row` meets its contract. Assumes nothing.
 use Rattle.kinds.proofs.KindLaws.{offset-more, next-inside, next-read, next-low, next-entry}
 use mathlib.Core.Path.{_≡_, refl, _∙_}
 use Prim.Native.Nat.{_+_, _*_, _≤_, _-_}

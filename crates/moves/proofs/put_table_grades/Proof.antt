@@ -1,3 +1,4 @@
+-- `moves::put_table_grades` meets its contract. Assumes nothing.
 use Rattle.kinds.proofs.KindLaws.{row-inside, offset-more}
 use mathlib.Core.Path.{_≡_, refl, sym, ap, _∙_}
 use Prim.Native.Nat.{_+_, _*_, _≤_, _-_}

@@ -1,3 +1,4 @@
+-- `moves::step_into` meets its contract. Assumes nothing.
 use mathlib.Core.Path.{sym}
 use Rattle.kinds.proofs.KindLaws.{product-asks, bytes}
 use Rattle.moves.proofs.step_into.Statement.{statement}

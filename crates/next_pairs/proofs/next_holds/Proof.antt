@@ -3,7 +3,6 @@ use native.Mathlib.Omega.{arith}
 use mathlib.Core.Path.{sym}
 use Rattle.lines.proofs.PairBytes.{length-front}
 use Rattle.next_pairs.proofs.NextPairs.{length-times, next-is}
-use borrow.Author.Needs.{needs}
 use Rattle.next_pairs.proofs.next_holds.Statement.{statement}
 use Rattle.next_pairs.proofs.next_holds.Tie as tie
 
@@ -11,7 +10,7 @@ slice-aggregate-put-next : tie.Need-slice-aggregate-put-next
 slice-aggregate-put-next c = search
 
 put-next-requires : tie.Need-put-next-requires
-put-next-requires c κs = search needs
+put-next-requires c κs = (search, search, search, omega arith)
 
 add-size : tie.Need-add-size
 add-size c = omega arith

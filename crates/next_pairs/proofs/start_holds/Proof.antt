@@ -4,7 +4,6 @@ use mathlib.Core.Path.{sym}
 use denote.Ref.{now}
 use Rattle.lines.proofs.PairBytes.{length-front, pair-said}
 use Rattle.next_pairs.proofs.NextPairs.{length-start}
-use borrow.Author.Needs.{needs}
 use Rattle.next_pairs.proofs.start_holds.Statement.{statement}
 use Rattle.next_pairs.proofs.start_holds.Tie as tie
 
@@ -12,7 +11,7 @@ slice-aggregate-put-start : tie.Need-slice-aggregate-put-start
 slice-aggregate-put-start c = search
 
 put-start-requires : tie.Need-put-start-requires
-put-start-requires c κs = search needs
+put-start-requires c κs = (search, omega arith)
 
 add-size : tie.Need-add-size
 add-size c = omega arith

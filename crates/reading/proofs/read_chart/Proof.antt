@@ -1,5 +1,6 @@
 -- `reading::read_chart` meets its contract: a short buffer, a chart, and a refusal that zeroes.
 -- Assumes nothing.
+use native.Mathlib.Omega.{arith}
 use Rattle.reading.proofs.Whole.{short-read, chart-read, chart-refused}
 use Rattle.reading.proofs.read_chart.Statement.{statement}
 use Rattle.reading.proofs.read_chart.Tie as tie
@@ -26,7 +27,7 @@ returns-2 : tie.Need-returns-2
 returns-2 c = chart-read _ _ (search) _ _ (c .before .before .before .before .before .read-whole .ensures) _ (c .before .size .given .1)
 
 same-length-2 : tie.Need-same-length-2
-same-length-2 c = search
+same-length-2 c = omega arith
 
 returns-3 : tie.Need-returns-3
 returns-3 c = chart-refused _ _ (search) _ _ (c .before .before .before .before .before .before .before .before .before .read-whole .ensures) _ (c .before .before .before .before .before .why .given .1) _ (c .before .before .zero .ensures)

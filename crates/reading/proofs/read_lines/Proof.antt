@@ -66,7 +66,7 @@ read-rest-requires c κs =
     rest-in (head-read _ _ _ _ (head-width _ _ (c .before .before .before .before .before .before .before .before .before .before .before .before .rule-of .ensures)) (search) (held (f .ensures .0) h) (picked (f .result) _ _ _ (f .ensures .1) h)) _ _ _ _ refl refl refl refl (held (c .before .before .sizes-fit .ensures) (c .before .if3 .left)) (search)
 
 same-length-3 : tie.Need-same-length-3
-same-length-3 c = search
+same-length-3 c = omega arith
 
 returns-4 : tie.Need-returns-4
 returns-4 c =

@@ -1,3 +1,4 @@
+-- `row_build::build_rows` meets its contract. Assumes nothing.
 use native.Mathlib.Omega.{arith}
 use denote.Ref.{now}
 use Rattle.row_build.proofs.RowsBuilt.{back-asks, back-full, rows-asks, rows-full, rows-done}

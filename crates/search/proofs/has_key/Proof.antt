@@ -1,3 +1,4 @@
+-- `search::has_key` meets its contract. Assumes nothing.
 use native.Mathlib.Omega.{arith}
 use denote.Ref.{now}
 use Rattle.marks.proofs.MarkLaws.{unmarked}

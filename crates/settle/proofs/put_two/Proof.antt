@@ -1,3 +1,4 @@
+-- `settle::put_two` meets its contract. Assumes nothing.
 use lib.ListN.{length-set}
 use native.Mathlib.Omega.{arith}
 use Rattle.paper.specs.Tables.{twoBytes}

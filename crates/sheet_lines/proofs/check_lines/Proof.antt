@@ -17,7 +17,7 @@ returns-2 : tie.Need-returns-2
 returns-2 c = grade-wrong _ _ _ _ (c .before .before .before .bad-line .ensures) (c .before .before .if1 .left) (fell (c .before .grade-holds .ensures) (c .if2 .taken))
 
 bad-next-requires : tie.Need-bad-next-requires
-bad-next-requires c κs = search
+bad-next-requires c κs = (search, search, search)
 
 returns-3 : tie.Need-returns-3
 returns-3 c = next-wrong _ _ _ _ (c .before .before .before .before .bad-line .ensures) (c .before .before .before .if1 .left) (held (c .before .before .grade-holds .ensures) (c .before .if2 .left)) _ (c .bad-next .ensures)

@@ -1,3 +1,4 @@
+-- `vector_build::build` meets its contract. Assumes nothing.
 use native.Mathlib.Omega.{arith}
 use denote.Ref.{now}
 use Rattle.lists.proofs.Tests.{fell, held}
@@ -37,7 +38,7 @@ same-length : tie.Need-same-length
 same-length c = omega arith
 
 same-length-2 : tie.Need-same-length-2
-same-length-2 c = search
+same-length-2 c = omega arith
 
 returns-2 : tie.Need-returns-2
 returns-2 c = let b = c .before .before .before .before .before .before .before .before .before .before .before .before .before .before .before .before .before .before .before .before .before .before in build-full (b .args .kind) _ _ (b .pre .1) (b .pre .2) _ _ _ (room-read (b .args .kind) _ _ (b .pre .1) (b .pre .2) _ _ _ (held (c .before .before .before .before .before .before .before .before .before .before .before .before .before .before .before .before .before .before .room-fits .ensures) (c .before .before .before .before .before .before .before .before .before .before .before .before .before .before .before .before .before .if1 .left))) _ _ (c .before .before .before .before .before .before .before .before .before .before .before .before .before .before .grow .result) (c .before .before .before .before .before .before .before .before .before .before .before .before .before .before .grow .ensures) (c .before .before .before .before .before .before .before .before .enum-told .given .1) _ _ (zeros-of (now (b .args .table)) (c .before .before .before .before .before .before .before .before .before .before .before .before .before .before .grow .last .1 .1 .1 .0) (c .before .before .before .before .before .before .zero .ensures) (c .before .before .before .before .before .before .before .before .before .before .before .before .before .before .grow .kept .1 .1 .1 .0)) (zeros-of (now (b .args .vectors)) (c .before .before .before .before .before .before .before .before .before .before .before .before .before .before .grow .last .1 .1 .1 .1 .0) (c .before .before .zero2 .ensures) (c .before .before .before .before .before .before .before .before .before .before .before .before .before .before .grow .kept .1 .1 .1 .1 .0))

@@ -7,7 +7,6 @@ use native.Mathlib.Nat.{mul-le-mul-right}
 use borrow.Rule.Slice.PartMut.{same-len-mid}
 use Rattle.search.proofs.Found.{place-small}
 use Rattle.walk.proofs.Filled.{first-value, none-held, one-held, made-full, few, fits-still, made-done}
-use borrow.Author.Needs.{needs}
 use Rattle.walk.proofs.grow.Statement.{statement}
 use Rattle.walk.proofs.grow.Tie as tie
 use Rattle.walk.proofs.grow.Reads as reads
@@ -30,7 +29,7 @@ no-marks-requires : tie.Need-no-marks-requires
 no-marks-requires c κs = search
 
 put-first-requires : tie.Need-put-first-requires
-put-first-requires c κs = search needs
+put-first-requires c κs = (search, omega arith)
 
 slice-aggregate-seek : tie.Need-slice-aggregate-seek
 slice-aggregate-seek c = omega arith
@@ -45,13 +44,13 @@ seek-requires : tie.Need-seek-requires
 seek-requires c κs = let b = c .before .before .before .before .before .before .before .before .before .before .before .before .before .before .before in (b .pre .ready .sized, none-held _ _ _ _ _ _ (b .pre) (c .before .before .before .before .before .before .put-first .ensures) _ _ _ (c .before .before .before .before .before .before .before .before .before .before .no-heads .ensures) (c .before .before .before .before .before .before .before .before .before .no-links .ensures) (c .before .before .before .before .before .before .before .before .no-marks .ensures), omega arith, first-value _ _ _ _ _ _ (b .pre) (c .before .before .before .before .before .before .put-first .ensures))
 
 slice-aggregate-walk : tie.Need-slice-aggregate-walk
-slice-aggregate-walk c = search
+slice-aggregate-walk c = omega arith
 
 slice-aggregate-walk-2 : tie.Need-slice-aggregate-walk-2
-slice-aggregate-walk-2 c = search
+slice-aggregate-walk-2 c = omega arith
 
 slice-aggregate-walk-3 : tie.Need-slice-aggregate-walk-3
-slice-aggregate-walk-3 c = search
+slice-aggregate-walk-3 c = omega arith
 
 walk-requires : tie.Need-walk-requires
 walk-requires c κs = let b = c .before .before .before .before .before .before .before .before .before .before .before .before .before .before .before .before .before .before .before .before .before .before .before .before in one-held _ _ _ _ _ _ (b .pre) (c .before .before .before .before .before .before .before .before .before .before .before .before .before .before .before .put-first .ensures) _ _ (c .before .before .before .before .before .before .before .before .seek .ensures)

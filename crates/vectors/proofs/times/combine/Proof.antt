@@ -33,7 +33,7 @@ add-p : tie.Need-add-p Inv-loop μ-loop
 add-p c = omega arith
 
 loop-less : tie.Need-loop-less Inv-loop μ-loop
-loop-less c = omega arith
+loop-less c = omega (arith, c .before .before .before .before .loop-test .taken)
 
 loop-again : tie.Need-loop-again Inv-loop μ-loop
 loop-again c = (omega arith, combine-more _ _ _ _ (c .before .before .before .before .before .loop .inv .1) refl refl (c .before .prod .ensures .is) (c .join .ensures))

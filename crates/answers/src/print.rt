@@ -1,4 +1,4 @@
-// What the three programs share: a chart's text in, what `answers` makes of it to standard output.
+// What the three programs share: a chart's text in, what the program prints for it to standard output.
 use libc::STDOUT_FILENO;
 ghost use mathlib.Core.Path.{_≡_};
 ghost use lib.ListN.{length};
@@ -20,20 +20,20 @@ fn answer_buffer() -> [u8; 9366]
 // Prints the Nerode table of a chart's text.
 pub fn nerode(text: &[u8]) {
     let mut out = answer_buffer();
-    let size = answers::nerode(text, &mut out);
+    let size = crate::nerode(text, &mut out);
     io::write_all(STDOUT_FILENO, &out[..size]);
 }
 
 // Prints the reduced Nerode table of a chart's text.
 pub fn reduced(text: &[u8]) {
     let mut out = answer_buffer();
-    let size = answers::reduced(text, &mut out);
+    let size = crate::reduced(text, &mut out);
     io::write_all(STDOUT_FILENO, &out[..size]);
 }
 
 // Prints the Brzozowski table of a chart's text.
 pub fn brz(text: &[u8]) {
     let mut out = answer_buffer();
-    let size = answers::brz(text, &mut out);
+    let size = crate::brz(text, &mut out);
     io::write_all(STDOUT_FILENO, &out[..size]);
 }
