@@ -26,7 +26,7 @@ sub-t11 c = omega arith
 returns : tie.Need-returns
 returns c =
     let s = c .before .before .before .before .before .before .before .before .args in
-    behind-line _ (s .cursor) (s .due) (search) (search)
+    behind-line _ (s .cursor) (s .due) (omega arith) (omega arith)
 
 rule-of-requires : tie.Need-rule-of-requires
 rule-of-requires c κs = omega arith
@@ -34,7 +34,7 @@ rule-of-requires c κs = omega arith
 returns-2 : tie.Need-returns-2
 returns-2 c =
     let s = c .before .before .before .before .before .before .before .before .args in
-    behind-last _ (s .cursor) (s .due) (search) (search) (c .rule-of .result) (search)
+    behind-last _ (s .cursor) (s .due) (omega arith) (omega arith) (c .rule-of .result) (omega arith)
 
 pub behind-spec : {M : Type 1} → statement M
 behind-spec =

@@ -33,19 +33,19 @@ unfolding joined
 loop-holds c = (omega arith, sym (zero-mul _), refl, inFront-none _)
 
 sub-row-times : tie.Need-sub-row-times Inv-loop μ-loop
-sub-row-times c = let a = c .before .before .before .before .before .before .args in let l = c .before .before .loop in omega (arith, letter-inside (l .letter) (a .shape .letters) (a .shape .n) (l .at) (length (now (a .out))) (l .inv .1) (search) (c .before .before .before .before .before .before .pre .2))
+sub-row-times c = let a = c .before .before .before .before .before .before .args in let l = c .before .before .loop in omega (arith, letter-inside (l .letter) (a .shape .letters) (a .shape .n) (l .at) (length (now (a .out))) (l .inv .1) (omega arith) (c .before .before .before .before .before .before .pre .2))
 
 part-row-times-start : tie.Need-part-row-times-start Inv-loop μ-loop
-part-row-times-start c = let a = c .before .before .before .before .before .before .args in let l = c .before .before .loop in omega (arith, letter-inside (l .letter) (a .shape .letters) (a .shape .n) (l .at) (length (now (a .out))) (l .inv .1) (search) (c .before .before .before .before .before .before .pre .2))
+part-row-times-start c = let a = c .before .before .before .before .before .before .args in let l = c .before .before .loop in omega (arith, letter-inside (l .letter) (a .shape .letters) (a .shape .n) (l .at) (length (now (a .out))) (l .inv .1) (omega arith) (c .before .before .before .before .before .before .pre .2))
 
 part-row-times-end : tie.Need-part-row-times-end Inv-loop μ-loop
 part-row-times-end c = omega arith
 
 row-times-requires : tie.Need-row-times-requires Inv-loop μ-loop
-row-times-requires c κs = let a = c .before .before .before .before .before .before .before .args in let l = c .before .before .before .loop in (c .before .before .before .before .before .before .before .pre .0, search, as-grades (c .before .before .before .before .before .before .before .pre .1) refl, simp (length-take, length-drop) (omega (arith, letter-inside (l .letter) (a .shape .letters) (a .shape .n) (l .at) (length (now (a .out))) (l .inv .1) (search) (c .before .before .before .before .before .before .before .pre .2))))
+row-times-requires c κs = let a = c .before .before .before .before .before .before .before .args in let l = c .before .before .before .loop in (c .before .before .before .before .before .before .before .pre .0, omega arith, as-grades (c .before .before .before .before .before .before .before .pre .1) refl, simp (length-take, length-drop) (omega (arith, letter-inside (l .letter) (a .shape .letters) (a .shape .n) (l .at) (length (now (a .out))) (l .inv .1) (omega arith) (c .before .before .before .before .before .before .before .pre .2))))
 
 add-at : tie.Need-add-at Inv-loop μ-loop
-add-at c = let a = c .before .before .before .before .before .before .before .before .before .before .before .args in let l = c .before .before .before .before .before .before .before .loop in omega (arith, letter-inside (l .letter) (a .shape .letters) (a .shape .n) (l .at) (length (now (a .out))) (l .inv .1) (search) (c .before .before .before .before .before .before .before .before .before .before .before .pre .2))
+add-at c = let a = c .before .before .before .before .before .before .before .before .before .before .before .args in let l = c .before .before .before .before .before .before .before .loop in omega (arith, letter-inside (l .letter) (a .shape .letters) (a .shape .n) (l .at) (length (now (a .out))) (l .inv .1) (omega arith) (c .before .before .before .before .before .before .before .before .before .before .before .pre .2))
 
 add-letter : tie.Need-add-letter Inv-loop μ-loop
 add-letter c = omega arith
@@ -54,7 +54,7 @@ loop-less : tie.Need-loop-less Inv-loop μ-loop
 loop-less c = omega arith
 
 loop-again : tie.Need-loop-again Inv-loop μ-loop
-loop-again c = let a = c .before .before .before .before .before .before .before .before .before .before .before .args in let l = c .before .before .before .before .before .before .before .loop in (omega arith, rw (add-one, suc-mul, l .inv .1), same-len-mid (l .at) (length (l .out) - l .at) (l .out) (c .before .before .before .row-times .last .1 .1 .1 .1 .0) (c .before .before .before .row-times .kept .1 .1 .1 .1 .0) ∙ l .inv .2, key-more (c .before .before .before .before .before .before .before .before .before .before .before .pre .0) (now (a .v)) (now (a .out)) (c .before .before .before .before .before .before .before .before .before .before .before .pre .2) (l .letter) (l .at) (l .out) _ (search) (l .inv .1) (l .inv .2) (l .inv .3) (c .before .before .before .row-times .ensures))
+loop-again c = let a = c .before .before .before .before .before .before .before .before .before .before .before .args in let l = c .before .before .before .before .before .before .before .loop in (omega arith, rw (add-one, suc-mul, l .inv .1), same-len-mid (l .at) (length (l .out) - l .at) (l .out) (c .before .before .before .row-times .last .1 .1 .1 .1 .0) (c .before .before .before .row-times .kept .1 .1 .1 .1 .0) ∙ l .inv .2, key-more (c .before .before .before .before .before .before .before .before .before .before .before .pre .0) (now (a .v)) (now (a .out)) (c .before .before .before .before .before .before .before .before .before .before .before .pre .2) (l .letter) (l .at) (l .out) _ (omega arith) (l .inv .1) (l .inv .2) (l .inv .3) (c .before .before .before .row-times .ensures))
 
 end-grade-requires : tie.Need-end-grade-requires Inv-loop μ-loop
 end-grade-requires c κs = (c .before .before .before .before .before .before .pre .0, as-grades (c .before .before .before .before .before .before .pre .1) refl)

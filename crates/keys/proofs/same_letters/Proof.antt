@@ -31,7 +31,7 @@ unfolding allBelow
 loop-holds c = (omega arith, sym (zero-mul _), refl)
 
 add-to : tie.Need-add-to Inv-loop μ-loop
-add-to c = let a = c .before .before .before .before .before .before .before .args in let l = c .before .before .before .loop in omega (arith, letter-inside (l .x) (a .shape .letters) (a .shape .n) (l .at) (length (now (a .key))) (l .inv .1) (search) (omega (arith, c .before .before .before .before .before .before .before .pre .2)))
+add-to c = let a = c .before .before .before .before .before .before .before .args in let l = c .before .before .before .loop in omega (arith, letter-inside (l .x) (a .shape .letters) (a .shape .n) (l .at) (length (now (a .key))) (l .inv .1) (omega arith) (omega (arith, c .before .before .before .before .before .before .before .pre .2)))
 
 sub-makes : tie.Need-sub-makes Inv-loop μ-loop
 sub-makes c = omega arith
@@ -40,13 +40,13 @@ part-makes-start : tie.Need-part-makes-start Inv-loop μ-loop
 part-makes-start c = omega arith
 
 part-makes-end : tie.Need-part-makes-end Inv-loop μ-loop
-part-makes-end c = let a = c .before .before .before .before .before .before .before .args in let l = c .before .before .before .loop in omega (arith, letter-inside (l .x) (a .shape .letters) (a .shape .n) (l .at) (length (now (a .key))) (l .inv .1) (search) (omega (arith, c .before .before .before .before .before .before .before .pre .2)))
+part-makes-end c = let a = c .before .before .before .before .before .before .before .args in let l = c .before .before .before .loop in omega (arith, letter-inside (l .x) (a .shape .letters) (a .shape .n) (l .at) (length (now (a .key))) (l .inv .1) (omega arith) (omega (arith, c .before .before .before .before .before .before .before .pre .2)))
 
 makes-requires : tie.Need-makes-requires Inv-loop μ-loop
-makes-requires c κs = let l = c .before .before .before .before .loop in (c .before .before .before .before .before .before .before .before .pre .0, search, c .before .before .before .before .before .before .before .before .pre .1, part-long (c .before .before .before .before .before .before .before .before .pre .0) (now (c .before .before .before .before .before .before .before .before .args .v)) (now (c .before .before .before .before .before .before .before .before .args .key)) (c .before .before .before .before .before .before .before .before .pre .2) (l .x) (l .at) (l .inv .1) (search))
+makes-requires c κs = let l = c .before .before .before .before .loop in (c .before .before .before .before .before .before .before .before .pre .0, omega arith, c .before .before .before .before .before .before .before .before .pre .1, part-long (c .before .before .before .before .before .before .before .before .pre .0) (now (c .before .before .before .before .before .before .before .before .args .v)) (now (c .before .before .before .before .before .before .before .before .args .key)) (c .before .before .before .before .before .before .before .before .pre .2) (l .x) (l .at) (l .inv .1) (omega arith))
 
 returns : tie.Need-returns Inv-loop μ-loop
-returns c = let l = c .before .before .before .before .before .before .loop in sym (all-fails _ _ (l .x) (search) (fell (letter-part (c .before .before .before .before .before .before .before .before .before .before .pre .0) _ _ (c .before .before .before .before .before .before .before .before .before .before .pre .2) (l .x) (l .at) (l .inv .1) (c .before .makes .ensures)) (c .if2 .taken)))
+returns c = let l = c .before .before .before .before .before .before .loop in sym (all-fails _ _ (l .x) (omega arith) (fell (letter-part (c .before .before .before .before .before .before .before .before .before .before .pre .0) _ _ (c .before .before .before .before .before .before .before .before .before .before .pre .2) (l .x) (l .at) (l .inv .1) (c .before .makes .ensures)) (c .if2 .taken)))
 
 add-x : tie.Need-add-x Inv-loop μ-loop
 add-x c = omega arith

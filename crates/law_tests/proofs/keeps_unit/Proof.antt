@@ -8,10 +8,10 @@ cast-e : tie.Need-cast-e
 cast-e c = omega arith
 
 prod-requires : tie.Need-prod-requires
-prod-requires c κs = search
+prod-requires c κs = (search, omega arith, search)
 
 prod-requires-2 : tie.Need-prod-requires-2
-prod-requires-2 c κs = search
+prod-requires-2 c κs = (search, search, omega arith)
 
 returns : tie.Need-returns
 returns c =

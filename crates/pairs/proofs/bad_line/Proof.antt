@@ -21,10 +21,10 @@ unfolding allBelow
 loop-holds c = (omega arith, refl)
 
 line-holds-requires : tie.Need-line-holds-requires Inv-loop μ-loop
-line-holds-requires c κs = let h = c .before .before .before .before .before .before .before .before .pre in (h .0, h .1, search)
+line-holds-requires c κs = let h = c .before .before .before .before .before .before .before .before .pre in (h .0, h .1, omega arith)
 
 returns : tie.Need-returns Inv-loop μ-loop
-returns c = line-bad _ _ _ _ (c .before .before .before .loop .i) (c .before .before .before .loop .inv .1) (search) (fell (c .before .line-holds .ensures) (c .if1 .taken))
+returns c = line-bad _ _ _ _ (c .before .before .before .loop .i) (c .before .before .before .loop .inv .1) (omega arith) (fell (c .before .line-holds .ensures) (c .if1 .taken))
 
 add-i : tie.Need-add-i Inv-loop μ-loop
 add-i c = omega arith

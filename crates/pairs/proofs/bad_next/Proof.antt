@@ -21,10 +21,10 @@ unfolding allBelow
 loop-holds c = (omega arith, refl)
 
 next-holds-requires : tie.Need-next-holds-requires Inv-loop μ-loop
-next-holds-requires c κs = let h = c .before .before .before .before .before .before .before .before .before .pre in (h .0, h .1, h .2, search)
+next-holds-requires c κs = let h = c .before .before .before .before .before .before .before .before .before .pre in (h .0, h .1, h .2, omega arith)
 
 returns : tie.Need-returns Inv-loop μ-loop
-returns c = letter-bad (c .before .before .before .before .before .before .before .before .before .before .before .pre .0 .linesIn .shaped) _ _ _ _ (c .before .before .before .before .loop .x) (search) (c .before .before .before .before .loop .inv .1) (fell (c .before .next-holds .ensures) (c .if2 .taken))
+returns c = letter-bad (c .before .before .before .before .before .before .before .before .before .before .before .pre .0 .linesIn .shaped) _ _ _ _ (c .before .before .before .before .loop .x) (omega arith) (c .before .before .before .before .loop .inv .1) (fell (c .before .next-holds .ensures) (c .if2 .taken))
 
 add-x : tie.Need-add-x Inv-loop μ-loop
 add-x c = omega arith

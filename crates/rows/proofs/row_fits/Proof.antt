@@ -17,7 +17,7 @@ abbrev μ-loop : tie.MeasureT-loop
 μ-loop rows count m top s x₀ x = m - x
 
 grade-at-requires : tie.Need-grade-at-requires Inv-loop μ-loop
-grade-at-requires c κs = search
+grade-at-requires c κs = omega arith
 
 returns : tie.Need-returns Inv-loop μ-loop
 returns c = bad-grade _ _ _ _ _ (omega arith)
@@ -27,10 +27,10 @@ unfolding allBelow
 loop-holds c = (omega arith, refl)
 
 next-at-requires : tie.Need-next-at-requires Inv-loop μ-loop
-next-at-requires c κs = search
+next-at-requires c κs = omega arith
 
 returns-2 : tie.Need-returns-2 Inv-loop μ-loop
-returns-2 c = bad-next _ _ _ _ _ (c .before .before .before .loop .x) (search) (omega arith)
+returns-2 c = bad-next _ _ _ _ _ (c .before .before .before .loop .x) (omega arith) (omega arith)
 
 add-x : tie.Need-add-x Inv-loop μ-loop
 add-x c = omega arith

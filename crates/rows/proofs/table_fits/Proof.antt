@@ -19,7 +19,7 @@ abbrev μ-loop : tie.MeasureT-loop
 μ-loop rows count m top s₀ s = count - s
 
 size-fits-requires : tie.Need-size-fits-requires Inv-loop μ-loop
-size-fits-requires c κs = search
+size-fits-requires c κs = omega arith
 
 returns : tie.Need-returns Inv-loop μ-loop
 returns c = table-size _ _ _ _ (fell (c .before .size-fits .ensures) (c .if1 .taken))
@@ -29,10 +29,10 @@ unfolding allBelow
 loop-holds c = (omega arith, held (c .before .size-fits .ensures) (c .if1 .left), refl)
 
 row-fits-requires : tie.Need-row-fits-requires Inv-loop μ-loop
-row-fits-requires c κs = row-in _ _ _ _ (c .before .loop .inv .1) (search)
+row-fits-requires c κs = row-in _ _ _ _ (c .before .loop .inv .1) (omega arith)
 
 returns-2 : tie.Need-returns-2 Inv-loop μ-loop
-returns-2 c = table-row _ _ _ _ (c .before .before .before .loop .s) (c .before .before .before .loop .inv .1) (search) (fell (c .before .row-fits .ensures) (c .if2 .taken))
+returns-2 c = table-row _ _ _ _ (c .before .before .before .loop .s) (c .before .before .before .loop .inv .1) (omega arith) (fell (c .before .row-fits .ensures) (c .if2 .taken))
 
 add-s : tie.Need-add-s Inv-loop μ-loop
 add-s c = omega arith

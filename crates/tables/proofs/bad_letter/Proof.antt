@@ -23,15 +23,15 @@ unfolding allBelow
 loop-holds c = (omega arith, refl)
 
 shared-slice-read-wide : tie.Need-shared-slice-read-wide Inv-loop μ-loop
-shared-slice-read-wide c = search
+shared-slice-read-wide c = omega arith
 
 wide-requires : tie.Need-wide-requires Inv-loop μ-loop
-wide-requires c κs = search
+wide-requires c κs = omega arith
 
 returns : tie.Need-returns Inv-loop μ-loop
 returns c =
     let l = c .before .before .before .before .loop in
-    answered-at _ _ (l .i) (bad-is _ _ _ (search) (l .inv .1) (omega arith)) (search)
+    answered-at _ _ (l .i) (bad-is _ _ _ (omega arith) (l .inv .1) (omega arith)) (omega arith)
 
 add-i : tie.Need-add-i Inv-loop μ-loop
 add-i c = omega arith

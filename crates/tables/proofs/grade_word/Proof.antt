@@ -1,24 +1,25 @@
 -- `tables::grade_word` meets its contract: each return is what the tests on its way make of `wordReply`.
 -- Assumes nothing.
+use native.Mathlib.Omega.{arith}
 use Rattle.lists.proofs.Tests.{fell, held}
 use Rattle.tables.proofs.Walks.{word-table, word-letter, word-walkable, word-grade}
 use Rattle.tables.proofs.grade_word.Statement.{statement}
 use Rattle.tables.proofs.grade_word.Tie as tie
 
 table-fits-requires : tie.Need-table-fits-requires
-table-fits-requires c κs = search
+table-fits-requires c κs = omega arith
 
 returns : tie.Need-returns
 returns c = word-table _ _ _ _ (fell (c .before .table-fits .ensures) (c .if1 .taken))
 
 bad-letter-requires : tie.Need-bad-letter-requires
-bad-letter-requires c κs = search
+bad-letter-requires c κs = omega arith
 
 enum-known-i : tie.Need-enum-known-i
-enum-known-i c = search
+enum-known-i c = omega arith
 
 enum-told : tie.Need-enum-told
-enum-told c = search
+enum-told c = omega arith
 
 walk-requires : tie.Need-walk-requires
 walk-requires c κs =

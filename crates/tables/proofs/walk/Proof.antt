@@ -21,15 +21,15 @@ loop-holds : tie.Need-loop-holds Inv-loop μ-loop
 loop-holds c = (c .before .before .pre, omega arith, walk-some _ _ _ _ (c .before .before .pre), refl)
 
 shared-slice-read-wide : tie.Need-shared-slice-read-wide Inv-loop μ-loop
-shared-slice-read-wide c = search
+shared-slice-read-wide c = omega arith
 
 wide-requires : tie.Need-wide-requires Inv-loop μ-loop
-wide-requires c κs = search
+wide-requires c κs = omega arith
 
 next-at-requires : tie.Need-next-at-requires Inv-loop μ-loop
 next-at-requires c κs =
     let l = c .before .before .before .loop in
-    (walk-row _ _ _ _ (l .inv .0) (l .s) (search), omega (arith, walk-letter _ _ _ _ (l .inv .0) (l .i) (search)))
+    (walk-row _ _ _ _ (l .inv .0) (l .s) (omega arith), omega (arith, walk-letter _ _ _ _ (l .inv .0) (l .i) (omega arith)))
 
 add-i : tie.Need-add-i Inv-loop μ-loop
 add-i c = omega arith
@@ -42,10 +42,10 @@ loop-again c =
     let l = c .before .before .before .before .loop in
     let q = c .next-at .ensures .0 in
     let x = c .before .wide .ensures .0 in
-    (l .inv .0, omega arith, walk-below _ _ _ _ (l .inv .0) (l .s) (l .i) _ _ (search) (search) x q, walk-more _ _ (l .s) _ (l .i) _ _ _ (search) x q (l .inv .3))
+    (l .inv .0, omega arith, walk-below _ _ _ _ (l .inv .0) (l .s) (l .i) _ _ (omega arith) (omega arith) x q, walk-more _ _ (l .s) _ (l .i) _ _ _ (omega arith) x q (l .inv .3))
 
 grade-at-requires : tie.Need-grade-at-requires Inv-loop μ-loop
-grade-at-requires c κs = walk-row _ _ _ _ (c .before .loop .inv .0) (c .before .loop .s) (search)
+grade-at-requires c κs = walk-row _ _ _ _ (c .before .loop .inv .0) (c .before .loop .s) (omega arith)
 
 returns : tie.Need-returns Inv-loop μ-loop
 returns c =

@@ -22,13 +22,13 @@ loop-holds : tie.Need-loop-holds Inv-loop μ-loop
 loop-holds c = (walk-none _ _ _ _ _ _ (c .before .before .before .before .before .before .before .pre), refl, refl, refl)
 
 expand-requires : tie.Need-expand-requires Inv-loop μ-loop
-expand-requires c κs = walk-asks _ _ _ _ _ (c .before .before .before .before .before .before .loop .inv .0) (c .before .before .before .before .before .before .before .before .before .before .before .before .before .before .pre) (search)
+expand-requires c κs = walk-asks _ _ _ _ _ (c .before .before .before .before .before .before .loop .inv .0) (c .before .before .before .before .before .before .before .before .before .before .before .before .before .before .pre) (omega arith)
 
 enum-known-more : tie.Need-enum-known-more Inv-loop μ-loop
-enum-known-more c = search
+enum-known-more c = omega arith
 
 enum-told : tie.Need-enum-told Inv-loop μ-loop
-enum-told c = search
+enum-told c = omega arith
 
 same-length : tie.Need-same-length Inv-loop μ-loop
 same-length c = omega arith
@@ -46,7 +46,7 @@ same-length-5 : tie.Need-same-length-5 Inv-loop μ-loop
 same-length-5 c = omega arith
 
 returns : tie.Need-returns Inv-loop μ-loop
-returns c = walk-stops _ _ _ _ _ (c .before .before .before .before .before .before .before .before .before .before .before .before .before .before .before .before .before .before .before .loop .inv .0) (search) _ _ _ (c .before .before .before .before .before .before .before .before .before .before .before .before .expand .result) (c .before .before .before .before .before .before .before .before .before .before .before .before .expand .ensures) (c .enum-told .given .1)
+returns c = walk-stops _ _ _ _ _ (c .before .before .before .before .before .before .before .before .before .before .before .before .before .before .before .before .before .before .before .loop .inv .0) (omega arith) _ _ _ (c .before .before .before .before .before .before .before .before .before .before .before .before .expand .result) (c .before .before .before .before .before .before .before .before .before .before .before .before .expand .ensures) (c .enum-told .given .1)
 
 add-i : tie.Need-add-i Inv-loop μ-loop
 add-i c = omega arith
@@ -55,22 +55,22 @@ loop-less : tie.Need-loop-less Inv-loop μ-loop
 loop-less c = omega arith
 
 loop-again : tie.Need-loop-again Inv-loop μ-loop
-loop-again c = (walk-goes _ _ _ _ _ (c .before .before .before .before .before .before .before .before .before .before .before .before .before .before .before .before .before .before .before .before .loop .inv .0) (search) _ _ _ (c .before .before .before .before .before .before .before .before .before .before .before .before .before .expand .result) (c .before .before .before .before .before .before .before .before .before .before .before .before .before .expand .ensures) _ (c .before .more .given .1) (c .before .before .before .before .before .before .before .before .before .before .before .before .before .expand .kept .1 .1 .1 .1 .1 .0), c .before .before .before .before .before .before .before .before .before .before .before .before .before .expand .kept .1 .1 .1 .1 .1 .1 .1 .0 ∙ c .before .before .before .before .before .before .before .before .before .before .before .before .before .before .before .before .before .before .before .before .loop .inv .1, c .before .before .before .before .before .before .before .before .before .before .before .before .before .expand .kept .1 .1 .1 .1 .1 .1 .1 .1 .0 ∙ c .before .before .before .before .before .before .before .before .before .before .before .before .before .before .before .before .before .before .before .before .loop .inv .2, c .before .before .before .before .before .before .before .before .before .before .before .before .before .expand .kept .1 .1 .1 .1 .1 .1 .1 .1 .1 .0 ∙ c .before .before .before .before .before .before .before .before .before .before .before .before .before .before .before .before .before .before .before .before .loop .inv .3)
+loop-again c = (walk-goes _ _ _ _ _ (c .before .before .before .before .before .before .before .before .before .before .before .before .before .before .before .before .before .before .before .before .loop .inv .0) (omega arith) _ _ _ (c .before .before .before .before .before .before .before .before .before .before .before .before .before .expand .result) (c .before .before .before .before .before .before .before .before .before .before .before .before .before .expand .ensures) _ (c .before .more .given .1) (c .before .before .before .before .before .before .before .before .before .before .before .before .before .expand .kept .1 .1 .1 .1 .1 .0), c .before .before .before .before .before .before .before .before .before .before .before .before .before .expand .kept .1 .1 .1 .1 .1 .1 .1 .0 ∙ c .before .before .before .before .before .before .before .before .before .before .before .before .before .before .before .before .before .before .before .before .loop .inv .1, c .before .before .before .before .before .before .before .before .before .before .before .before .before .expand .kept .1 .1 .1 .1 .1 .1 .1 .1 .0 ∙ c .before .before .before .before .before .before .before .before .before .before .before .before .before .before .before .before .before .before .before .before .loop .inv .2, c .before .before .before .before .before .before .before .before .before .before .before .before .before .expand .kept .1 .1 .1 .1 .1 .1 .1 .1 .1 .0 ∙ c .before .before .before .before .before .before .before .before .before .before .before .before .before .before .before .before .before .before .before .before .loop .inv .3)
 
 same-length-6 : tie.Need-same-length-6 Inv-loop μ-loop
-same-length-6 c = search
+same-length-6 c = omega arith
 
 same-length-7 : tie.Need-same-length-7 Inv-loop μ-loop
-same-length-7 c = search
+same-length-7 c = omega arith
 
 same-length-8 : tie.Need-same-length-8 Inv-loop μ-loop
-same-length-8 c = search
+same-length-8 c = omega arith
 
 same-length-9 : tie.Need-same-length-9 Inv-loop μ-loop
-same-length-9 c = search
+same-length-9 c = omega arith
 
 same-length-10 : tie.Need-same-length-10 Inv-loop μ-loop
-same-length-10 c = search
+same-length-10 c = omega arith
 
 returns-2 : tie.Need-returns-2 Inv-loop μ-loop
 returns-2 c = walk-all _ _ _ _ _ (c .before .loop .inv .0) (omega arith)
