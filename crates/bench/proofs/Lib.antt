@@ -2,3 +2,4 @@ pub mod Lent
 pub mod Made
 pub mod States
 pub mod Words
+pub mod One

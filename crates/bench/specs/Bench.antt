@@ -9,8 +9,8 @@ use Rattle.bench.specs.declared.reader.Reader.{Reader}
 abbrev pub answerTo : Reader → ℕ → Reply
 answerTo r x = stepReply (now (r .rows)) (r .count) (r .m) (r .state) x
 
-abbrev pub gradeOf : Reader → Reply
-gradeOf r = gradeReply (now (r .rows)) (r .count) (r .m) (r .state)
+abbrev pub gradeAnswer : Reader → Reply
+gradeAnswer r = gradeReply (now (r .rows)) (r .count) (r .m) (r .state)
 
 -- the reader at another state of its table
 abbrev pub atState : Reader → ℕ → Reader

@@ -4,7 +4,7 @@ use replies::Stepped;
 ghost use mathlib.Core.Path.{_≡_};
 ghost use Rattle.replies.specs.Replies.{steppedSaid, gradedSaid};
 ghost use Rattle.paper.specs.Tables.{stepReply, gradeReply, stateAfter, readerTakes, readerState};
-ghost use Rattle.bench.specs.Bench.{answerTo, gradeOf, taken};
+ghost use Rattle.bench.specs.Bench.{answerTo, gradeAnswer, taken};
 
 // A table by its rows, state count and number of letters, and a state. The rows may be anything: each method answers for them.
 pub struct Reader<'a> {
@@ -38,7 +38,7 @@ impl<'a> Reader<'a> {
 
     // The grade of the present state.
     pub fn grade(self) -> Graded
-        ensures { λ g. ⌜ gradedSaid g ≡ gradeOf (self .entry) ⌝ }
+        ensures { λ g. ⌜ gradedSaid g ≡ gradeAnswer (self .entry) ⌝ }
     {
         steps::grade(self.rows, self.count, self.m, self.state)
     }

@@ -214,7 +214,7 @@ module _
 once-built : (P : List ℕ → ℕ → Backward → Type 0) →
     ((c : List ℕ) (room reverseRoom : ℕ) (l : Lent) → BackwardAdmits c room reverseRoom l → length (reverseStates c reverseRoom) ≤ reverseRoom →
     length (rowStates c (reverseStates c reverseRoom) room) ≤ room → P c reverseRoom (backwardMade c room reverseRoom l)) →
-    OnceBuilt P
+    OnceBuilt brzozowski P
 once-built P holds c room reverseRoom l e =
     let a = backward-admits c room reverseRoom l 0 (inl refl) e in
     ⊎-elim
@@ -229,14 +229,14 @@ once-built P holds c room reverseRoom l e =
     number : {o : Backward} → brzozowski c room reverseRoom l ≡ o → brzozowski c room reverseRoom l .reply .0 ≡ o .reply .0
     number e = ap (λ (o : Backward). o .reply .0) e
 
-pub brzozowski-faithful : OnceBuilt RowsFaithful
+pub brzozowski-faithful : OnceBuilt brzozowski RowsFaithful
 brzozowski-faithful = once-built RowsFaithful rows-made
 
-pub reverse-faithful : OnceBuilt ReverseFaithful
+pub reverse-faithful : OnceBuilt brzozowski ReverseFaithful
 reverse-faithful = once-built ReverseFaithful reverse-made
 
-pub brzozowski-rows : OnceBuilt RowsCombine
+pub brzozowski-rows : OnceBuilt brzozowski RowsCombine
 brzozowski-rows = once-built RowsCombine combine-made
 
-pub brzozowski-smallest : OnceBuilt Smallest
+pub brzozowski-smallest : OnceBuilt brzozowski Smallest
 brzozowski-smallest = once-built Smallest smallest-made

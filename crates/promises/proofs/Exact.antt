@@ -11,7 +11,7 @@ use Rattle.paper.specs.Constructions.{Construction, statesOf, nerodeBy, reduced
 use Rattle.paper.specs.Builders.{Forward, forward, nerode, reduced, Lent, Backward, brzozowski}
 use Rattle.numbering.specs.Numbered.{KeyDecides}
 use Rattle.numbering.proofs.Theorems.{room-exact}
-use Rattle.promises.specs.Demands.{Outnumber, ForwardAdmits, ForwardBuilds, ForwardSeven, BackwardAdmits, ReverseFits, RowsOutnumber, BrzozowskiBuilds, BrzozowskiSix, BrzozowskiSeven}
+use Rattle.promises.specs.Demands.{Outnumber, ForwardAdmits, ForwardBuilds, ForwardSeven, BackwardAdmits, ReverseFits, RowsOutnumber, BackwardBuilds, BackwardSix, BackwardSeven}
 use Rattle.promises.proofs.Decides.{nerode-decides, reduced-decides, reverse-decides, rows-decides}
 use Rattle.promises.proofs.Answers.{forward-admits, forward-cases, backward-admits, backward-cases}
 
@@ -105,7 +105,7 @@ backward-verdict c room reverseRoom l a =
     ))
     (backward-cases c room reverseRoom l a)
 
-pub brzozowski-builds : BrzozowskiBuilds
+pub brzozowski-builds : BackwardBuilds brzozowski
 brzozowski-builds c room reverseRoom l =
     exactly
     (backward-admits c room reverseRoom l 0 (inl refl))
@@ -115,7 +115,7 @@ brzozowski-builds c room reverseRoom l =
     (λ h. ⊎-elim (λ g. inr (λ e. omega (arith, number (g .1)), λ p. p .1 (g .0))) (λ g. inl (g .1, (h .0, g .0))) (h .1))
     (backward-verdict c room reverseRoom l a))
 
-pub brzozowski-six : BrzozowskiSix
+pub brzozowski-six : BackwardSix brzozowski
 brzozowski-six c room reverseRoom l =
     exactly
     (λ e. backward-admits c room reverseRoom l 6 (inr (omega arith)) (number e))
@@ -125,7 +125,7 @@ brzozowski-six c room reverseRoom l =
     (λ h. inr (λ e. ⊎-elim (λ g. omega (arith, number (g .1), number e)) (λ g. omega (arith, number e)) (h .1), h .0))
     (backward-verdict c room reverseRoom l a))
 
-pub brzozowski-seven : BrzozowskiSeven
+pub brzozowski-seven : BackwardSeven brzozowski
 brzozowski-seven c room reverseRoom l =
     exactly
     (λ e. backward-admits c room reverseRoom l 7 (inr (omega arith)) (number e))

@@ -10,7 +10,7 @@ use Rattle.paper.specs.Chart.{kOf, letters}
 use Rattle.paper.specs.Vectors.{vectorOf, gradeOf, reverseOf}
 use Rattle.paper.specs.Tables.{stateOf}
 use Rattle.paper.specs.Constructions.{Construction, nerodeBy, reducedBy, reverseBy}
-use Rattle.paper.specs.Builders.{nerode, reduced}
+use Rattle.paper.specs.Builders.{nerode, reduced, brzozowski}
 use Rattle.lists.proofs.ByPlace.{length-tabulate, getD-tabulate}
 use Rattle.numbering.specs.Numbered.{wordKey}
 use Rattle.numbering.proofs.Order.{before-irrefl, before-upto}
@@ -99,7 +99,7 @@ pub reduced-keeps-first : ForwardKeeps reduced
 unfolding vectorOf
 reduced-keeps-first c room table vectors e = keeps-first c (reducedBy c) (gradeOf c) (SameAfterLetters c) _ (reduced-faithful c room table vectors e)
 
-pub reverse-keeps-first : OnceBuilt ReverseKeeps
+pub reverse-keeps-first : OnceBuilt brzozowski ReverseKeeps
 unfolding reverseOf
 reverse-keeps-first c room reverseRoom l e =
     keeps-first c (reverseBy c) (λ w. gradeOf c (reverse w)) (SameReverse c) _ (reverse-faithful c room reverseRoom l e)

@@ -2,15 +2,14 @@
 use mathlib.Core.Path.{_≡_, sym, ap, _∙_}
 use mathlib.Core.List.{List}
 use Prim.Native.Nat.{ℕ}
-use Rattle.paper.specs.Reply.{Reply}
 use Rattle.replies.specs.Replies.{checkedSaid, verdictSaid, steppedSaid, gradedSaid}
 use Rattle.paper.specs.Check.{checkReply}
-use Rattle.paper.specs.Tables.{tableReply, stepReply, gradeReply, wordReply, capReply, stateAfter, stepCode, gradeCode}
+use Rattle.paper.specs.Tables.{tableReply, stepReply, gradeReply, wordReply, capReply, readerState, stepCode, gradeCode}
 use Rattle.paper.specs.Builders.{vectorAt, Forward, nerode, reduced, Lent, Backward, brzozowski}
 use Rattle.paper.specs.Sheets.{sheetReply}
 use Rattle.pages.specs.Texts.{Filled, readChart, printTable, printRefusal}
 use Rattle.replies.proofs.Said.{checked-one, verdict-one, built-one, both-one, stepped-one, graded-one, written-one}
-use Rattle.promises.specs.OneReply.{OneReply, forwardSays, backwardSays, filledSays, readerSays, itSays}
+use Rattle.promises.specs.OneReply.{OneReply, forwardSays, backwardSays, filledSays, itSays}
 
 -- ---- for any call whose answers say different things
 
@@ -81,17 +80,9 @@ one-print-table chart rows count m text = one-filled (printTable chart rows coun
 pub one-print-refusal : (number : ℕ) (text : List ℕ) → OneReply filledSays (printRefusal number text)
 one-print-refusal number text = one-filled (printRefusal number text)
 
--- the bench reader: what a letter answers, and its state after it
-pub one-reader-step : (rows : List ℕ) (count m state letter : ℕ) →
-    OneReply readerSays (stepReply rows count m state letter, stateAfter state (stepReply rows count m state letter))
-one-reader-step rows count m state letter =
-    one
-    readerSays
-    (λ a b e i. (stepped-one (a .0) (b .0) (ap (λ (p : Reply × ℕ). p .0) e) i, e i .1))
-    (stepReply rows count m state letter, stateAfter state (stepReply rows count m state letter))
-
-pub one-reader-grade : (rows : List ℕ) (count m state : ℕ) → OneReply gradedSaid (gradeReply rows count m state)
-one-reader-grade = one-grade
+-- the bench's word; its reader's own methods are in crates/bench/proofs/One.antt
+pub one-read-word : (rows : List ℕ) (count m : ℕ) (word : List ℕ) → OneReply gradedSaid (gradeReply rows count m (readerState rows count m word))
+one-read-word rows count m word = one-grade rows count m (readerState rows count m word)
 
 -- the C calls
 pub one-lace-step : (rows : List ℕ) (count m state letter : ℕ) → OneReply itSays (stepCode (stepReply rows count m state letter))

@@ -14,6 +14,7 @@ use Rattle.paper.specs.Check.{chartFits}
 use Rattle.paper.specs.Vectors.{vectorOf, gradeOf}
 use Rattle.paper.specs.Tables.{twoBytes, gradeTop, tableFits, stateOf, letterFits, badLetter, wordReply}
 use Rattle.paper.specs.Constructions.{Construction, nerodeBy}
+use Rattle.paper.specs.Sheets.{sheetReply}
 use Rattle.lists.proofs.Tests.{least-none}
 use Rattle.lists.proofs.ByPlace.{joined-cong}
 use Rattle.numbering.proofs.Words.{word-at}
@@ -21,11 +22,12 @@ use Rattle.numbering.proofs.TableFits.{Table, table-passes}
 use Rattle.algebra.specs.Honest.{wordLine, Honest}
 use Rattle.algebra.proofs.Checked.{sound}
 use Rattle.algebra.proofs.Tables.{chart-table}
-use Rattle.algebra.proofs.SheetComplete.{wordsLine, laid-out, sheet-complete}
+use Rattle.algebra.proofs.SheetComplete.{wordsLine, laid-out}
 use Rattle.promises.specs.Faithful.{Result, EveryWord, Faithful, SameVector}
-use Rattle.promises.specs.Demands.{sheetLine, SheetAccepted, WalksAlike, NerodeSheet}
+use Rattle.promises.specs.Demands.{SheetCheck, SheetComplete, sheetLine, SheetAccepted, WalksAlike, NerodeSheet}
 use Rattle.promises.proofs.Exact.{nerode-builds}
 use Rattle.promises.proofs.Forward.{nerode-faithful}
+use Rattle.promises.proofs.Sheets.{sheet-complete}
 use Rattle.promises.proofs.FirstWords.{first, first-word, first-value, first-state, reached-low}
 
 -- ---- on the bench
@@ -62,7 +64,7 @@ walks-alike = word-reply
 
 -- ---- a Nerode table's own sheet
 
-module _ (c : List ℕ) (t : Result) (chart : chartFits c ≡ true) (f : Faithful c (nerodeBy c) (gradeOf c) (SameVector c) t) where
+module _ (check : SheetCheck) (complete : SheetComplete check) (c : List ℕ) (t : Result) (chart : chartFits c ≡ true) (f : Faithful c (nerodeBy c) (gradeOf c) (SameVector c) t) where
   -- the first word of a state
   abbrev word : ℕ → List ℕ
   word s = first c (nerodeBy c) (gradeOf c) (SameVector c) t f s
@@ -91,9 +93,9 @@ module _ (c : List ℕ) (t : Result) (chart : chartFits c ≡ true) (f : Faithfu
       let h = reached-low c (nerodeBy c) (gradeOf c) (SameVector c) t f u w in
       (s, (h, (word-state s h, sym (word-vector s h) ∙ f .leads u w)))
 
-  own-sheet : SheetAccepted c t
+  own-sheet : SheetAccepted check c t
   own-sheet =
-      sheet-complete
+      complete
       c
       (t .table)
       (t .count)
@@ -116,6 +118,10 @@ module _ (c : List ℕ) (t : Result) (chart : chartFits c ≡ true) (f : Faithfu
       word-letters
       found))
 
-pub nerode-sheet : NerodeSheet
-nerode-sheet c room table vectors e =
-    own-sheet c _ (nerode-builds c room table vectors .0 e .0 .0) (nerode-faithful c room table vectors e)
+-- whatever check is complete
+pub own-sheet-accepted : (check : SheetCheck) → SheetComplete check → NerodeSheet check
+own-sheet-accepted check complete c room table vectors e =
+    own-sheet check complete c _ (nerode-builds c room table vectors .0 e .0 .0) (nerode-faithful c room table vectors e)
+
+pub nerode-sheet : NerodeSheet sheetReply
+nerode-sheet = own-sheet-accepted sheetReply sheet-complete

@@ -1,5 +1,5 @@
--- Demands 2 and 3 of document 01, said of what the calls answer and of the bytes that they leave. To be read with `Faithful` and with
--- honest sheets (crates/algebra/specs).
+-- Demands 2 and 3, said of any program in a call's place: of what it answers and of the bytes that it leaves. To be read with `Faithful`
+-- and with honest sheets (crates/algebra/specs).
 use mathlib.Core.Path.{_≡_}
 use mathlib.Core.Bool.{true}
 use mathlib.Core.Logic.{_↔_}
@@ -8,14 +8,13 @@ use Prim.Native.Nat.{ℕ, suc, _≤_, _<_}
 use lib.ListN.{getD}
 use Rattle.paper.specs.Lists.{joined}
 use Rattle.paper.specs.Words.{Word}
-use Rattle.paper.specs.Reply.{fine}
+use Rattle.paper.specs.Reply.{Reply, fine}
 use Rattle.paper.specs.Chart.{letters}
 use Rattle.paper.specs.Check.{chartFits}
 use Rattle.paper.specs.Vectors.{combine, vectorOf, gradeOf, reverseOf}
 use Rattle.paper.specs.Tables.{twoBytes, tableFits, stateOf, tableGrade, wordReply}
 use Rattle.paper.specs.Constructions.{Construction, reverseBy, reverseStates, rowsBy}
-use Rattle.paper.specs.Builders.{Forward, forwardRoom, nerode, Lent, Backward, backwardRoom, brzozowski}
-use Rattle.paper.specs.Sheets.{sheetReply}
+use Rattle.paper.specs.Builders.{Forward, forwardRoom, nerode, Lent, Backward, backwardRoom}
 use Rattle.numbering.specs.Numbered.{ManyKeys}
 use Rattle.algebra.specs.Honest.{Right, Honest}
 use Rattle.promises.specs.Faithful.{Result, answered, ofForward, ofReverse, ofRows, valuesOf, EveryWord, Faithful, SameFuture, SameReverse, KeepsFirst}
@@ -60,11 +59,15 @@ ForwardSeven build by =
 
 -- ---- demand 2: the Brzozowski call
 
+-- chart, room, reverse room, lent buffers
+abbrev pub BackwardBuilder : Type 0
+BackwardBuilder = List ℕ → ℕ → ℕ → Lent → Backward
+
 -- P holds of chart, reverse room and outcome wherever nothing is refused
-abbrev pub OnceBuilt : (List ℕ → ℕ → Backward → Type 0) → Type 0
-OnceBuilt P =
-    (c : List ℕ) (room reverseRoom : ℕ) (l : Lent) → brzozowski c room reverseRoom l .reply .0 ≡ 0 →
-    P c reverseRoom (brzozowski c room reverseRoom l)
+abbrev pub OnceBuilt : BackwardBuilder → (List ℕ → ℕ → Backward → Type 0) → Type 0
+OnceBuilt build P =
+    (c : List ℕ) (room reverseRoom : ℕ) (l : Lent) → build c room reverseRoom l .reply .0 ≡ 0 →
+    P c reverseRoom (build c room reverseRoom l)
 
 -- the table is faithful to the rows over the reverse vectors that the call leaves
 abbrev pub RowsFaithful : List ℕ → ℕ → Backward → Type 0
@@ -106,44 +109,48 @@ abbrev pub RowsOutnumber : List ℕ → ℕ → ℕ → Type 0
 RowsOutnumber c room reverseRoom = Outnumber c (rowsBy c (reverseStates c reverseRoom)) room
 
 -- nothing is refused exactly where neither outnumbers its room
-abbrev pub BrzozowskiBuilds : Type 0
-BrzozowskiBuilds =
+abbrev pub BackwardBuilds : BackwardBuilder → Type 0
+BackwardBuilds build =
     (c : List ℕ) (room reverseRoom : ℕ) (l : Lent) →
-    (brzozowski c room reverseRoom l .reply .0 ≡ 0) ↔
+    (build c room reverseRoom l .reply .0 ≡ 0) ↔
     (BackwardAdmits c room reverseRoom l × (ReverseFits c reverseRoom × (¬ RowsOutnumber c room reverseRoom)))
 
 -- 6 exactly where the reverse vectors do
-abbrev pub BrzozowskiSix : Type 0
-BrzozowskiSix =
+abbrev pub BackwardSix : BackwardBuilder → Type 0
+BackwardSix build =
     (c : List ℕ) (room reverseRoom : ℕ) (l : Lent) →
-    (brzozowski c room reverseRoom l .reply ≡ (6, [])) ↔ (BackwardAdmits c room reverseRoom l × Outnumber c (reverseBy c) reverseRoom)
+    (build c room reverseRoom l .reply ≡ (6, [])) ↔ (BackwardAdmits c room reverseRoom l × Outnumber c (reverseBy c) reverseRoom)
 
 -- 7 exactly where the rows do and the reverse vectors do not
-abbrev pub BrzozowskiSeven : Type 0
-BrzozowskiSeven =
+abbrev pub BackwardSeven : BackwardBuilder → Type 0
+BackwardSeven build =
     (c : List ℕ) (room reverseRoom : ℕ) (l : Lent) →
-    (brzozowski c room reverseRoom l .reply ≡ (7, [])) ↔
+    (build c room reverseRoom l .reply ≡ (7, [])) ↔
     (BackwardAdmits c room reverseRoom l × (ReverseFits c reverseRoom × RowsOutnumber c room reverseRoom))
 
 -- ---- demand 3: the sheet check
 
+-- chart, table, state count, number of letters, sheet, number of lines
+abbrev pub SheetCheck : Type 0
+SheetCheck = List ℕ → List ℕ → ℕ → ℕ → List ℕ → ℕ → Reply
+
 -- a table with an accepted sheet grades every word as the chart does
-abbrev pub SheetSound : Type 0
-SheetSound =
-    (c rows : List ℕ) (count m : ℕ) (sheet : List ℕ) (lines : ℕ) → sheetReply c rows count m sheet lines .0 ≡ 0 →
+abbrev pub SheetSound : SheetCheck → Type 0
+SheetSound check =
+    (c rows : List ℕ) (count m : ℕ) (sheet : List ℕ) (lines : ℕ) → check c rows count m sheet lines .0 ≡ 0 →
     (u : List ℕ) → Word m u → tableGrade rows m u ≡ gradeOf c u
 
 -- an honest sheet beside a right table is accepted, whatever the order of its lines and however often each stands there
-abbrev pub SheetComplete : Type 0
-SheetComplete =
+abbrev pub SheetComplete : SheetCheck → Type 0
+SheetComplete check =
     (c rows : List ℕ) (count m : ℕ) (sheet : List ℕ) (lines : ℕ) → Right c rows count m → Honest c rows m sheet lines →
-    sheetReply c rows count m sheet lines ≡ fine []
+    check c rows count m sheet lines ≡ fine []
 
 -- a table that grades one word otherwise has no accepted sheet
-abbrev pub SheetRefuses : Type 0
-SheetRefuses =
+abbrev pub SheetRefuses : SheetCheck → Type 0
+SheetRefuses check =
     (c rows : List ℕ) (count m : ℕ) (u : List ℕ) → Word m u → ¬ (tableGrade rows m u ≡ gradeOf c u) →
-    (sheet : List ℕ) (lines : ℕ) → ¬ (sheetReply c rows count m sheet lines .0 ≡ 0)
+    (sheet : List ℕ) (lines : ℕ) → ¬ (check c rows count m sheet lines .0 ≡ 0)
 
 -- ---- the demands together
 
@@ -158,11 +165,11 @@ abbrev pub sheetLine : Result → ℕ → List ℕ
 sheetLine t s = twoBytes s ++ t .value s
 
 -- beside the table, that sheet is accepted
-abbrev pub SheetAccepted : List ℕ → Result → Type 0
-SheetAccepted c t = sheetReply c (t .table) (t .count) (letters c) (joined (t .count) (sheetLine t)) (t .count) ≡ fine []
+abbrev pub SheetAccepted : SheetCheck → List ℕ → Result → Type 0
+SheetAccepted check c t = check c (t .table) (t .count) (letters c) (joined (t .count) (sheetLine t)) (t .count) ≡ fine []
 
 -- so are the sheets of Nerode tables: the check refuses not all
-abbrev pub NerodeSheet : Type 0
-NerodeSheet =
+abbrev pub NerodeSheet : SheetCheck → Type 0
+NerodeSheet check =
     (c : List ℕ) (room : ℕ) (table vectors : List ℕ) → nerode c room table vectors .reply .0 ≡ 0 →
-    SheetAccepted c (ofForward c (nerode c room table vectors))
+    SheetAccepted check c (ofForward c (nerode c room table vectors))

@@ -2,13 +2,11 @@
 use mathlib.Core.Path.{_≡_}
 use mathlib.Core.List.{List}
 use Prim.Native.Nat.{ℕ}
-use Rattle.paper.specs.Reply.{Reply}
-use Rattle.replies.specs.Replies.{builtSaid, bothSaid, steppedSaid, writtenSaid}
+use Rattle.replies.specs.Replies.{builtSaid, bothSaid, writtenSaid}
 use Rattle.paper.specs.Builders.{Forward, Lent, Backward}
 use Rattle.pages.specs.Texts.{Filled}
 use Rattle.replies.specs.declared.Built.{Built}
 use Rattle.replies.specs.declared.BuiltBoth.{BuiltBoth}
-use Rattle.replies.specs.declared.Stepped.{Stepped}
 use Rattle.replies.specs.declared.Written.{Written}
 
 -- A call's contract is one equation: what its answer and the lent memory that it leaves say is its outcome by definition.
@@ -29,10 +27,6 @@ backwardSays a = record { reply = bothSaid (a .0); left = a .1 }
 -- reading and printing: answer, buffer
 abbrev pub filledSays : Written × List ℕ → Filled
 filledSays a = record { reply = writtenSaid (a .0); buffer = a .1 }
-
--- the reader takes a letter: answer, its state
-abbrev pub readerSays : Stepped × ℕ → Reply × ℕ
-readerSays a = (steppedSaid (a .0), a .1)
 
 -- a part of lent bytes, or a number: itself
 abbrev pub itSays : {A : Type 0} → A → A

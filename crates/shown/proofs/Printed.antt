@@ -54,7 +54,8 @@ module _ (number : ℕ) (w : Written) {old new : List ℕ} {size : ℕ} (room : 
 
 -- ---- a table's text
 
-length-table : (c rows : List ℕ) (count m : ℕ) → count * rowSize m ≤ length rows → length (tableText c rows count m) ≡ tableTextSize count m
+-- as many bytes as document 01 says
+pub length-table : (c rows : List ℕ) (count m : ℕ) → count * rowSize m ≤ length rows → length (tableText c rows count m) ≡ tableTextSize count m
 unfolding tableText twoBytes
 length-table c rows count m h =
     let line : lineLength (rowSize m) ≡ 9 + 4 * m = omega arith in

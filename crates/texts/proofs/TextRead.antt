@@ -126,7 +126,8 @@ module _ (c : List ℕ) (bytes : Bytes c) (fits : headFits c ≡ true) (n : leng
   total : headSize + bytesDue (dues c) ≡ length c
   total = bytes-chart c ∙ sym n
 
-  length-text : length (textOf c) ≤ textMost
+  -- at most 22,493 bytes
+  pub length-text : length (textOf c) ≤ textMost
   unfolding textOf framesOf dues head
   length-text =
       omega

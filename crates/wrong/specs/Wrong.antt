@@ -1,4 +1,5 @@
--- The wrong programs that document 01 names. A program is any function; what it does is said of all its answers.
+-- The wrong programs that document 01 names, and that the demands shut them out. A program is any function; what it does is said of all its
+-- answers.
 use mathlib.Core.Path.{_≡_}
 use mathlib.Core.List.{List}
 use Prim.Native.Nat.{ℕ, suc, _*_, _<_}
@@ -6,9 +7,11 @@ use lib.ListN.{getD}
 use Rattle.paper.specs.Lists.{part, inFront}
 use Rattle.paper.specs.Reply.{Reply}
 use Rattle.paper.specs.Chart.{letters}
-use Rattle.paper.specs.Tables.{rowSize}
-use Rattle.paper.specs.Builders.{nerode, reduced, brzozowski, blank, blankTable, blankVectors}
-use Rattle.paper.specs.Sheets.{sheetReply}
+use Rattle.paper.specs.Tables.{rowSize, gradeAt, nextAt}
+use Rattle.paper.specs.Constructions.{Construction, reducedBy}
+use Rattle.paper.specs.Builders.{Lent, blank, blankTable, blankVectors}
+use Rattle.promises.specs.Faithful.{SameAfterLetters}
+use Rattle.promises.specs.Demands.{Builder, ForwardBuilds, ForwardFaithful, BackwardBuilder, BackwardBuilds, OnceBuilt, RowsFaithful, Smallest, SheetCheck, SheetSound, SheetComplete}
 
 -- ---- builders
 
@@ -16,89 +19,99 @@ use Rattle.paper.specs.Sheets.{sheetReply}
 abbrev pub Builds : Type 0
 Builds = List ℕ → ℕ → List ℕ → Reply × List ℕ
 
--- the proved ones; the rest of what they are lent is zeros and large enough
-unfoldable pub nerodeBuilds : Builds
-nerodeBuilds c room table = let f = nerode c room table (blankVectors room) in (f .reply, f .table)
+-- a program in a call's place; the rest of what it is lent is zeros and large enough
+abbrev pub forwardBuilds : Builder → Builds
+forwardBuilds p c room table = let o = p c room table (blankVectors room) in (o .reply, o .table)
 
-unfoldable pub reducedBuilds : Builds
-reducedBuilds c room table = let f = reduced c room table (blankVectors room) in (f .reply, f .table)
-
-unfoldable pub brzozowskiBuilds : Builds
-brzozowskiBuilds c room table =
+abbrev pub backwardBuilds : BackwardBuilder → Builds
+backwardBuilds p c room table =
     let
-    b =
-    brzozowski
+    o =
+    p
     c
     room
     8
     (record { table = table; reverseTable = blankTable 8; reverseVectors = blankVectors 8; rows = blank (suc room * 8) })
     in
-    (b .reply, b .left .table)
+    (o .reply, o .left .table)
 
--- p answers and leaves what b does, whatever they are given
-abbrev pub Meets : Builds → Builds → Type 0
-Meets b p = (c : List ℕ) (room : ℕ) (table : List ℕ) → p c room table ≡ b c room table
-
--- what may hold of a table that is built: of the chart, the count, the table as lent, and the table as left
+-- what may hold of a table that is built: of chart and room, the count, the table as lent, and the table as left
 abbrev pub Fact : Type 1
-Fact = List ℕ → ℕ → List ℕ → List ℕ → Type 0
+Fact = List ℕ → ℕ → ℕ → List ℕ → List ℕ → Type 0
 
 -- it holds of every table that p builds
 abbrev pub OfBuilt : Builds → Fact → Type 0
 OfBuilt p Holds =
-    (c : List ℕ) (room : ℕ) (table : List ℕ) → p c room table .0 .0 ≡ 0 → Holds c (getD (p c room table .0 .1) 0 0) table (p c room table .1)
-
--- no program of whose tables it holds meets the builder's contract
-abbrev pub ShutOut : Builds → Fact → Type 0
-ShutOut b Holds = (p : Builds) → Meets b p → OfBuilt p Holds → ⊥
+    (c : List ℕ) (room : ℕ) (table : List ℕ) → p c room table .0 .0 ≡ 0 → Holds c room (getD (p c room table .0 .1) 0 0) table (p c room table .1)
 
 -- it refuses all charts: no table is built
 abbrev pub RefusesAll : Fact
-RefusesAll c count table left = ⊥
+RefusesAll c room count table left = ⊥
 
 abbrev pub OneFixedTable : List ℕ → Fact
-OneFixedTable rows c count table left = left ≡ inFront rows table
+OneFixedTable rows c room count table left = left ≡ inFront rows table
 
 abbrev pub WritesNothing : Fact
-WritesNothing c count table left = left ≡ table
+WritesNothing c room count table left = left ≡ table
 
 -- the row of state s
 abbrev pub rowAt : List ℕ → List ℕ → ℕ → List ℕ
 rowAt c left s = part (rowSize (letters c)) s left
 
 abbrev pub CopiesFirstRow : Fact
-CopiesFirstRow c count table left = (s : ℕ) → s < count → rowAt c left s ≡ rowAt c left 0
+CopiesFirstRow c room count table left = (s : ℕ) → s < count → rowAt c left s ≡ rowAt c left 0
 
--- one count whatever the chart
-abbrev pub InventsCount : ℕ → Fact
-InventsCount n c count table left = count ≡ n
+-- the count comes from anything but the chart
+abbrev pub InventsCount : (ℕ → List ℕ → ℕ) → Fact
+InventsCount invented c room count table left = count ≡ invented room table
 
--- a table merged again by the numbers of its states has no two rows alike
+-- document 01's five wrong builders: p is none of them
+pub record NoneOfFive (p : Builds) : Type 0 where
+  pub refuses-all : ¬ OfBuilt p RefusesAll
+  pub one-fixed-table : (rows : List ℕ) → ¬ OfBuilt p (OneFixedTable rows)
+  pub writes-nothing : ¬ OfBuilt p WritesNothing
+  pub copies-first-row : ¬ OfBuilt p CopiesFirstRow
+  pub invents-count : (invented : ℕ → List ℕ → ℕ) → ¬ OfBuilt p (InventsCount invented)
+
+-- demand 2 shuts out all five: no program that it holds of is one of them
+abbrev pub ForwardShutsOut : (List ℕ → Construction) → (List ℕ → List ℕ → List ℕ → Type 0) → Type 0
+ForwardShutsOut by alike = (p : Builder) → ForwardBuilds p by → ForwardFaithful p by alike → NoneOfFive (forwardBuilds p)
+
+abbrev pub BackwardShutsOut : Type 0
+BackwardShutsOut = (p : BackwardBuilder) → BackwardBuilds p → OnceBuilt p RowsFaithful → OnceBuilt p Smallest → NoneOfFive (backwardBuilds p)
+
+-- so does each call's contract: no program that answers and leaves what the call's definition says is one of them
+abbrev pub ForwardContract : Builder → Type 0
+ForwardContract call =
+    (p : Builder) → ((c : List ℕ) (room : ℕ) (table vectors : List ℕ) → p c room table vectors ≡ call c room table vectors) →
+    NoneOfFive (forwardBuilds p)
+
+abbrev pub BackwardContract : BackwardBuilder → Type 0
+BackwardContract call =
+    (p : BackwardBuilder) → ((c : List ℕ) (room reverseRoom : ℕ) (l : Lent) → p c room reverseRoom l ≡ call c room reverseRoom l) →
+    NoneOfFive (backwardBuilds p)
+
+-- a table merged again by the numbers of its states has no two states with one grade and the same next states
 abbrev pub MergesAgain : Fact
-MergesAgain c count table left = (s t : ℕ) → s < t → t < count → rowAt c left s ≡ rowAt c left t → ⊥
+MergesAgain c room count table left =
+    (s t : ℕ) → s < t → t < count → gradeAt left (letters c) s ≡ gradeAt left (letters c) t →
+    ¬ ((x : ℕ) → x < letters c → nextAt left (letters c) s x ≡ nextAt left (letters c) t x)
 
--- document 01's five wrong builders
-pub record FiveShutOut (b : Builds) : Type 0 where
-  pub refuses-all : ShutOut b RefusesAll
-  pub one-fixed-table : (rows : List ℕ) → ShutOut b (OneFixedTable rows)
-  pub writes-nothing : ShutOut b WritesNothing
-  pub copies-first-row : ShutOut b CopiesFirstRow
-  pub invents-count : (n : ℕ) → ShutOut b (InventsCount n)
+-- that is not the reduced table
+abbrev pub MergesOnce : Type 0
+MergesOnce = (p : Builder) → ForwardBuilds p reducedBy → ForwardFaithful p reducedBy SameAfterLetters → ¬ OfBuilt (forwardBuilds p) MergesAgain
 
 -- ---- sheet checks
 
-abbrev pub Checks : Type 0
-Checks = List ℕ → List ℕ → ℕ → ℕ → List ℕ → ℕ → Reply
+abbrev pub AcceptsAll : SheetCheck → Type 0
+AcceptsAll check = (c rows : List ℕ) (count m : ℕ) (sheet : List ℕ) (lines : ℕ) → check c rows count m sheet lines .0 ≡ 0
 
-abbrev pub Answers : (Reply → Type 0) → Checks → Type 0
-Answers Says p = (c rows : List ℕ) (count m : ℕ) (sheet : List ℕ) (lines : ℕ) → Says (p c rows count m sheet lines)
+abbrev pub RefusesSheets : SheetCheck → Type 0
+RefusesSheets check = (c rows : List ℕ) (count m : ℕ) (sheet : List ℕ) (lines : ℕ) → ¬ (check c rows count m sheet lines .0 ≡ 0)
 
-abbrev pub AcceptsAll : Checks → Type 0
-AcceptsAll = Answers (λ r. r .0 ≡ 0)
+-- demand 3 shuts out both
+abbrev pub SoundNotAll : Type 0
+SoundNotAll = (check : SheetCheck) → SheetSound check → ¬ AcceptsAll check
 
-abbrev pub RefusesSheets : Checks → Type 0
-RefusesSheets = Answers (λ r. r .0 ≡ 0 → ⊥)
-
-abbrev pub ChecksAlike : Checks → Type 0
-ChecksAlike p =
-    (c rows : List ℕ) (count m : ℕ) (sheet : List ℕ) (lines : ℕ) → p c rows count m sheet lines ≡ sheetReply c rows count m sheet lines
+abbrev pub CompleteNotNone : Type 0
+CompleteNotNone = (check : SheetCheck) → SheetComplete check → ¬ RefusesSheets check
