@@ -23,7 +23,7 @@ use Rattle.promises.proofs.Backward.{brzozowski-faithful, brzozowski-smallest}
 use Rattle.promises.proofs.FirstWords.{reached-low}
 use Rattle.promises.proofs.OneTable.{one-table}
 use Rattle.promises.proofs.Together.{own-sheet-accepted}
-use Rattle.wrong.specs.Wrong.{Builds, OfBuilt, RefusesAll, OneFixedTable, WritesNothing, rowAt, CopiesFirstRow, InventsCount, NoneOfFive, forwardBuilds, ForwardShutsOut, ForwardContract, MergesOnce, backwardBuilds, BackwardShutsOut, BackwardContract, SoundNotAll, CompleteNotNone}
+use Rattle.wrong.specs.Wrong.{Builds, OfBuilt, OneFixedTable, WritesNothing, rowAt, CopiesFirstRow, NoneOfFive, forwardBuilds, ForwardShutsOut, ForwardContract, MergesOnce, backwardBuilds, BackwardShutsOut, BackwardContract, SoundNotAll, CompleteNotNone}
 
 -- ---- builders
 
