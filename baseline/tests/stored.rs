@@ -5,6 +5,7 @@ mod common;
 use baseline::cases::by_hand::{E_CHART, E_SHEET, E_TABLE};
 use baseline::cases::tables::{Walk, Walked};
 use baseline::cases::{chart_case, sheet_case, table_case, text_case, SheetCase, Stored, TableCase};
+use baseline::programs::{answer, Build};
 use baseline::{check, Reply};
 use common::Plain;
 use std::collections::BTreeMap;
@@ -44,12 +45,19 @@ fn assert_occur(what: &str, replies: impl Iterator<Item = Reply>, least: &[(u8, 
     assert!(least.iter().all(|(number, least)| counts[number] >= *least), "{what}: {counts:?}");
 }
 
+/// A file of the repository.
+fn held(path: &str) -> Vec<u8> {
+    std::fs::read(PathBuf::from(env!("CARGO_MANIFEST_DIR")).join("..").join(path)).unwrap()
+}
+
 fn assert_stored(name: &str, made: Stored) {
-    let folder = PathBuf::from(env!("CARGO_MANIFEST_DIR")).join("../crates").join(name);
     for (file, bytes) in [("stdin", made.input), ("stdout", made.output)] {
-        let held = std::fs::read(folder.join(file)).unwrap();
-        assert!(held == bytes, "{name}/{file} is not what the program {name} writes");
+        assert!(held(&format!("crates/{name}/{file}")) == bytes, "{name}/{file} is not what the program {name} writes");
     }
+}
+
+fn assert_printed(build: Build, chart: &str, table: &str) {
+    assert!(held(table) == answer(build, &held(chart)), "{table} is not what is printed for {chart}");
 }
 
 #[test]
@@ -58,6 +66,16 @@ fn stored_files_are_what_the_programs_write() {
     assert_stored("text_cases", Stored::of(300, |stored, case| text_case(SEED, case).store(stored)));
     assert_stored("table_cases", Stored::of(TABLES, |stored, case| table_case(SEED, case).store(stored)));
     assert_stored("sheet_cases", Stored::of(SHEETS, |stored, case| sheet_case(SEED, case).store(stored)));
+}
+
+#[test]
+fn stored_tables_of_e_are_what_the_programs_print() {
+    for (build, name) in [(Build::Nerode, "nerode"), (Build::Reduced, "reduced"), (Build::Brzozowski, "brz")] {
+        let (input, output) = (format!("crates/{name}/stdin"), format!("crates/{name}/stdout"));
+        assert!(held(&input) == held("charts/e.chart"), "{input} is not charts/e.chart");
+        assert_printed(build, &input, &output);
+    }
+    assert_printed(Build::Brzozowski, "charts/e.chart", "charts/e.brz");
 }
 
 #[test]
