@@ -53,45 +53,90 @@ static void least(double *best, double began)
         *best = took;
 }
 
-static void time_table(size_t count, size_t m)
+static uint8_t word[LETTERS_READ];
+
+static void draw_word(size_t m)
 {
-    static uint8_t word[LETTERS_READ];
-    size_t len = count * (1 + 2 * m);
-    uint8_t *rows = malloc(len);
-    double bare = 1e9, checked = 1e9, lace = 1e9;
-    if (!rows)
-        exit(2);
     for (size_t i = 0; i < LETTERS_READ; i++)
         word[i] = (uint8_t)below(m);
-    for (size_t s = 0; s < count; s++) {
-        rows[s * (1 + 2 * m)] = (uint8_t)below(LACE_GRADES);
-        for (size_t x = 0; x < m; x++) {
-            size_t next = below(count);
-            rows[s * (1 + 2 * m) + 1 + 2 * x] = (uint8_t)(next / 256);
-            rows[s * (1 + 2 * m) + 2 + 2 * x] = (uint8_t)(next % 256);
-        }
+}
+
+static void draw_row(uint8_t *row, size_t count, size_t m)
+{
+    row[0] = (uint8_t)below(LACE_GRADES);
+    for (size_t x = 0; x < m; x++) {
+        size_t next = below(count);
+        row[1 + 2 * x] = (uint8_t)(next / 256);
+        row[2 + 2 * x] = (uint8_t)(next % 256);
     }
-    for (int round = 0; round < ROUNDS; round++) {
-        size_t a = 0, b = 0, c = 0;
-        double began = now();
-        for (size_t i = 0; i < LETTERS_READ; i++)
-            a = bare_step(rows, m, a, word[i]);
-        least(&bare, began);
-        began = now();
-        for (size_t i = 0; i < LETTERS_READ; i++)
-            b = checked_step(rows, len, count, m, b, word[i]);
-        least(&checked, began);
-        began = now();
-        for (size_t i = 0; i < LETTERS_READ; i++)
-            c = lace_step(rows, len, count, m, c, word[i]);
-        least(&lace, began);
-        if (a != b || b != c) {
-            fprintf(stderr, "the three walks end in different states\n");
-            exit(1);
-        }
+}
+
+static void draw_rows(uint8_t *rows, size_t count, size_t m)
+{
+    for (size_t s = 0; s < count; s++)
+        draw_row(rows + s * (1 + 2 * m), count, m);
+}
+
+/* The state after the word, by each kind of step. */
+static size_t bare_walk(const uint8_t *rows, size_t m)
+{
+    size_t state = 0;
+    for (size_t i = 0; i < LETTERS_READ; i++)
+        state = bare_step(rows, m, state, word[i]);
+    return state;
+}
+
+static size_t checked_walk(const uint8_t *rows, size_t len, size_t count, size_t m)
+{
+    size_t state = 0;
+    for (size_t i = 0; i < LETTERS_READ; i++)
+        state = checked_step(rows, len, count, m, state, word[i]);
+    return state;
+}
+
+static size_t lace_walk(const uint8_t *rows, size_t len, size_t count, size_t m)
+{
+    size_t state = 0;
+    for (size_t i = 0; i < LETTERS_READ; i++)
+        state = lace_step(rows, len, count, m, state, word[i]);
+    return state;
+}
+
+/* Nanoseconds a step, the least so far. */
+struct times {
+    double bare, checked, lace;
+};
+
+static void time_round(const uint8_t *rows, size_t len, size_t count, size_t m, struct times *best)
+{
+    double began = now();
+    size_t a = bare_walk(rows, m);
+    least(&best->bare, began);
+    began = now();
+    size_t b = checked_walk(rows, len, count, m);
+    least(&best->checked, began);
+    began = now();
+    size_t c = lace_walk(rows, len, count, m);
+    least(&best->lace, began);
+    if (a != b || b != c) {
+        fprintf(stderr, "the three walks end in different states\n");
+        exit(1);
     }
+}
+
+static void time_table(size_t count, size_t m)
+{
+    size_t len = count * (1 + 2 * m);
+    uint8_t *rows = malloc(len);
+    struct times best = {1e9, 1e9, 1e9};
+    if (!rows)
+        exit(2);
+    draw_word(m);
+    draw_rows(rows, count, m);
+    for (int round = 0; round < ROUNDS; round++)
+        time_round(rows, len, count, m, &best);
     free(rows);
-    printf("%6zu %4zu %10.2f %12.2f %10.2f %12.2f %15.2f\n", count, m, bare, checked, lace, lace / bare, lace / checked);
+    printf("%6zu %4zu %10.2f %12.2f %10.2f %12.2f %15.2f\n", count, m, best.bare, best.checked, best.lace, best.lace / best.bare, best.lace / best.checked);
 }
 
 int main(void)
