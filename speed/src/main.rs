@@ -3,7 +3,7 @@
 
 mod sheets;
 
-use baseline::cases::{grades, tight, Drawing, Rng};
+use baseline::cases::{grades, tight, Drawing, GradeTables, Rng};
 use baseline::{brzozowski, check, nerode, reduced, row_times, Chart, Grades};
 use std::hint::black_box;
 use std::time::Instant;
@@ -151,37 +151,46 @@ fn build_ratio(name: &str, build: Build, chart: &[u8]) -> f64 {
     report(&format!("{name}, {count} states"), proved, plain)
 }
 
+/// A chart with what it is called.
+type Named = (String, Vec<u8>);
+
+fn drawn(rng: &mut Rng, name: &str, tables: &GradeTables, sizes: &[(usize, usize)]) -> Vec<Named> {
+    let chart = |&(n, m): &(usize, usize)| (format!("{name}, n {n}, m {m}"), Drawing::with_sizes(rng, tables.clone(), n, m).bytes());
+    sizes.iter().map(chart).collect()
+}
+
+fn remembering(name: &str, tables: &GradeTables) -> Vec<Named> {
+    let chart = |back| (format!("{name}, remembering {back}"), tight::remembering(tables.clone(), back, true).bytes());
+    [6, 9, 11, 12].map(chart).to_vec()
+}
+
+fn check_charts(rng: &mut Rng) -> Vec<Named> {
+    let kinds = [("chain 2", grades::chain(2)), ("chain 5", grades::chain(5)), ("chain 16", grades::chain(16)), ("relations", grades::relations())];
+    kinds.iter().flat_map(|(name, tables)| drawn(rng, name, tables, &[(4, 2), (8, 4), (24, 16)])).collect()
+}
+
 /// Charts of few and of many states; some outnumber the room of 4,096, and are then refused after that many.
-fn build_charts(rng: &mut Rng) -> Vec<(String, Vec<u8>)> {
-    let mut charts = Vec::new();
-    for (name, tables) in [("chain 2", grades::chain(2)), ("chain 5", grades::chain(5)), ("relations", grades::relations())] {
-        for (n, m) in [(4, 2), (8, 4), (12, 8), (24, 16)] {
-            charts.push((format!("{name}, n {n}, m {m}"), Drawing::with_sizes(rng, tables.clone(), n, m).bytes()));
-        }
-        for back in [6, 9, 11, 12] {
-            charts.push((format!("{name}, remembering {back}"), tight::remembering(tables.clone(), back, true).bytes()));
-        }
-    }
-    charts
+fn build_charts(rng: &mut Rng) -> Vec<Named> {
+    let kinds = [("chain 2", grades::chain(2)), ("chain 5", grades::chain(5)), ("relations", grades::relations())];
+    let of_kind = |(name, tables): &(&str, GradeTables)| {
+        let sizes = [(4, 2), (8, 4), (12, 8), (24, 16)];
+        [drawn(rng, name, tables, &sizes), remembering(name, tables)].concat()
+    };
+    kinds.iter().flat_map(of_kind).collect()
+}
+
+fn time_builder(what: &str, build: Build, charts: &[Named]) {
+    let ratios: Vec<f64> = charts.iter().map(|(name, chart)| build_ratio(&format!("{what} {name}"), build, chart)).collect();
+    println!("geometric mean: {what} {:.2}", geometric_mean(&ratios));
 }
 
 fn main() {
     let mut rng = Rng::new(1);
-    let sizes = [(4, 2), (8, 4), (24, 16)];
-    let mut checks = Vec::new();
-    let mut rows = Vec::new();
-    for (name, tables) in [("chain 2", grades::chain(2)), ("chain 5", grades::chain(5)), ("chain 16", grades::chain(16)), ("relations", grades::relations())] {
-        for (n, m) in sizes {
-            let bytes = Drawing::with_sizes(&mut rng, tables.clone(), n, m).bytes();
-            let label = format!("{name}, n {n}, m {m}");
-            checks.push(check_ratio(&label, &bytes));
-            rows.push(rows_ratio(&label, &bytes));
-        }
-    }
+    let charts = check_charts(&mut rng);
+    let (checks, rows): (Vec<f64>, Vec<f64>) = charts.iter().map(|(name, chart)| (check_ratio(name, chart), rows_ratio(name, chart))).unzip();
     let charts = build_charts(&mut rng);
     for (what, build) in [("nerode", Build::Nerode), ("reduced", Build::Reduced), ("brz", Build::Brz)] {
-        let ratios: Vec<f64> = charts.iter().map(|(name, chart)| build_ratio(&format!("{what} {name}"), build, chart)).collect();
-        println!("geometric mean: {what} {:.2}", geometric_mean(&ratios));
+        time_builder(what, build, &charts);
     }
     let ratios: Vec<f64> = sheets::samples().iter().map(|(name, made)| sheets::ratio(name, made)).collect();
     println!("geometric mean: sheet {:.2}", geometric_mean(&ratios));

@@ -1,7 +1,7 @@
 //! Times the proved sheet check beside the plain one, which looks pairs up in a hash set.
 
 use crate::{median, report, ROOM};
-use baseline::cases::{grades, tight, Drawing, House, SheetCase};
+use baseline::cases::{grades, tight, Drawing, GradeTables, House, SheetCase};
 use baseline::check_sheet;
 use baseline::programs::Build;
 use std::hint::black_box;
@@ -55,20 +55,28 @@ fn vector_of(number: usize) -> Vec<u8> {
     (0..24).rev().map(|bit| (number >> bit & 1) as u8).collect()
 }
 
-/// Sheets of few lines and of 4,096: with a table state a line, with two table states, and with one.
-pub fn samples() -> Vec<(String, SheetCase)> {
+/// A sheet with what it is called.
+type Named = (String, SheetCase);
+
+fn remembering(name: &str, tables: &GradeTables, back: usize) -> Named {
+    (format!("{name}, remembering {back}"), honest(tight::remembering(tables.clone(), back, true), Build::Nerode))
+}
+
+/// 4,096 lines: with a table state a line, with two table states, and with one.
+fn registers(name: &str, tables: &GradeTables) -> [Named; 3] {
+    let register = |seen| tight::register(tables.clone(), [24, 16], 12, seen);
+    let mut blind = register(12);
+    blind.end.fill(0);
+    let made = [honest(register(12), Build::Nerode), honest(register(1), Build::Brzozowski), honest(blind, Build::Brzozowski)];
+    made.map(|made| (format!("{name}, n 24, m 16"), made))
+}
+
+/// Sheets of few lines and of 4,096.
+pub fn samples() -> Vec<Named> {
     let mut sheets = Vec::new();
     for (name, tables) in [("chain 2", grades::chain(2)), ("relations", grades::relations())] {
-        for back in [6, 9] {
-            sheets.push((format!("{name}, remembering {back}"), honest(tight::remembering(tables.clone(), back, true), Build::Nerode)));
-        }
-        let register = |seen| tight::register(tables.clone(), [24, 16], 12, seen);
-        let mut blind = register(12);
-        blind.end.fill(0);
-        let label = format!("{name}, n 24, m 16");
-        sheets.push((label.clone(), honest(register(12), Build::Nerode)));
-        sheets.push((label.clone(), honest(register(1), Build::Brzozowski)));
-        sheets.push((label, honest(blind, Build::Brzozowski)));
+        sheets.extend([6, 9].map(|back| remembering(name, &tables, back)));
+        sheets.extend(registers(name, &tables));
     }
     sheets.push(("all to the last line, n 24, m 16".into(), all_to_the_last_line()));
     sheets
