@@ -178,7 +178,7 @@ fn e_table_bytes_and_cap() {
 }
 
 #[test]
-fn rooms_and_buffers_are_refused_untouched() {
+fn forward_rooms_and_buffers_are_refused_untouched() {
     let chart = e_chart();
     for (room, table_len, vectors_len) in [(0, 99, 99), (4097, 99999, 99999), (6, 29, 14), (6, 30, 13)] {
         let (mut table, mut vectors) = (vec![7; table_len], vec![7; vectors_len]);
@@ -186,6 +186,11 @@ fn rooms_and_buffers_are_refused_untouched() {
         assert_eq!(reduced(&chart, room, &mut table, &mut vectors), Err(refused(5, &[])));
         assert!(common::all_are(&table, 7) && common::all_are(&vectors, 7));
     }
+}
+
+#[test]
+fn brzozowski_rooms_and_buffers_are_refused_untouched() {
+    let chart = e_chart();
     let fine = [3, 2, 15, 10, 6, 8];
     for spoiled in [
         [0, 2, 15, 10, 6, 8],

@@ -147,18 +147,21 @@ fn tables_grade_words_as_the_chart() {
     let mut rng = Rng::new(SEED);
     let mut tables_seen = 0;
     for chart in good_charts() {
-        let plain = Plain::of(&chart);
-        let words: Vec<Vec<u8>> = (0..12).map(|_| random_word(&mut rng, plain.m)).collect();
-        for (table, count) in built_tables(&chart) {
-            tables_seen += 1;
-            assert_eq!(check_table_beside(&chart, &table, count, plain.m), Ok(()));
-            for word in &words {
-                assert_eq!(grade_word(&table, count, plain.m, word), Ok(plain.grade_of(word) as u8));
-                assert_eq!(by_reader(&table, count, plain.m, word), grade_word(&table, count, plain.m, word));
-            }
-        }
+        let words: Vec<Vec<u8>> = (0..12).map(|_| random_word(&mut rng, usize::from(chart[3]))).collect();
+        let tables = built_tables(&chart);
+        tables_seen += tables.len();
+        tables.iter().for_each(|(table, count)| assert_grades(&chart, table, *count, &words));
     }
     assert!(tables_seen > 400, "only {tables_seen} tables were built");
+}
+
+fn assert_grades(chart: &[u8], table: &[u8], count: usize, words: &[Vec<u8>]) {
+    let plain = Plain::of(chart);
+    assert_eq!(check_table_beside(chart, table, count, plain.m), Ok(()));
+    for word in words {
+        assert_eq!(grade_word(table, count, plain.m, word), Ok(plain.grade_of(word) as u8));
+        assert_eq!(by_reader(table, count, plain.m, word), grade_word(table, count, plain.m, word));
+    }
 }
 
 fn by_reader(table: &[u8], count: usize, m: usize, word: &[u8]) -> Result<u8, Refusal> {
@@ -192,24 +195,26 @@ fn counts_fall_from_nerode_to_smallest() {
 #[test]
 fn forward_rooms_hit_exactly_and_missed_by_one() {
     for chart in good_charts() {
-        for build in [nerode, reduced] {
-            let wide = forward(build, &chart, ROOM);
-            let Ok(count) = wide.answer else {
-                assert_eq!(wide.answer, Err(refused(7, &[])));
-                assert!(all_are(&wide.table, 0) && all_are(&wide.vectors, 0));
-                continue;
-            };
-            let exact = forward(build, &chart, count);
-            assert_eq!(exact.answer, Ok(count));
-            forward_leaves(&chart, &exact, count, &wide);
-            forward_leaves(&chart, &wide, ROOM, &exact);
-            if count > 1 {
-                let missed = forward(build, &chart, count - 1);
-                assert_eq!(missed.answer, Err(refused(7, &[])));
-                assert!(all_are(&missed.table, 0) && all_are(&missed.vectors, 0));
-            }
-        }
+        forward_rooms(nerode, &chart);
+        forward_rooms(reduced, &chart);
     }
+}
+
+fn forward_rooms(build: common::Build, chart: &[u8]) {
+    let wide = forward(build, chart, ROOM);
+    let Ok(count) = wide.answer else { return forward_is_missed(&wide) };
+    let exact = forward(build, chart, count);
+    assert_eq!(exact.answer, Ok(count));
+    forward_leaves(chart, &exact, count, &wide);
+    forward_leaves(chart, &wide, ROOM, &exact);
+    if count > 1 {
+        forward_is_missed(&forward(build, chart, count - 1));
+    }
+}
+
+fn forward_is_missed(missed: &Forward) {
+    assert_eq!(missed.answer, Err(refused(7, &[])));
+    assert!(all_are(&missed.table, 0) && all_are(&missed.vectors, 0));
 }
 
 /// Results as in another room, zeros in the free places, all else as at entry.
@@ -217,10 +222,15 @@ fn forward_leaves(chart: &[u8], built: &Forward, room: usize, same: &Forward) {
     let (n, row_len) = (usize::from(chart[2]), 1 + 2 * usize::from(chart[3]));
     let count = built.answer.clone().unwrap();
     let (rows, vectors) = (count * row_len, count * n);
-    assert_eq!(built.table[..rows], same.table[..rows]);
-    assert!(all_are(&built.table[rows..], ENTRY));
+    table_left(&built.table, &same.table, rows);
     assert_eq!(built.vectors[..vectors], same.vectors[..vectors]);
     places_left(&built.vectors[vectors..], (room + 1 - count) * n);
+}
+
+/// Rows as in another table, then bytes as at entry.
+fn table_left(table: &[u8], same: &[u8], used: usize) {
+    assert_eq!(table[..used], same[..used]);
+    assert!(all_are(&table[used..], ENTRY));
 }
 
 /// Zeros for the free places, then bytes as at entry.
@@ -264,12 +274,8 @@ fn smallest_leaves(
 ) {
     let (n, row_len) = (usize::from(chart[2]), 1 + 2 * usize::from(chart[3]));
     let (count, reverse) = built.answer.clone().unwrap();
-    for (table, other, used) in
-        [(&built.table, &same.table, count * row_len), (&built.reverse_table, &same.reverse_table, reverse * row_len)]
-    {
-        assert_eq!(table[..used], other[..used]);
-        assert!(all_are(&table[used..], ENTRY));
-    }
+    table_left(&built.table, &same.table, count * row_len);
+    table_left(&built.reverse_table, &same.reverse_table, reverse * row_len);
     assert_eq!(built.reverse_vectors[..reverse * n], same.reverse_vectors[..reverse * n]);
     places_left(&built.reverse_vectors[reverse * n..], (reverse_room + 1 - reverse) * n);
     for state in 0..count {
@@ -318,11 +324,15 @@ fn forward_by_words(
     let built = forward(build, chart, 600);
     assert_eq!(built.answer, Ok(words.len()));
     assert_eq!(built.table[..table.len()], table);
-    for (state, word) in words.iter().enumerate() {
-        let vector = vector_at(&built.vectors, plain.n, words.len(), state);
-        assert_eq!(vector, bytes_of(&plain.vector_of(word)));
-    }
+    let vectors: Vec<Vec<usize>> = words.iter().map(|word| plain.vector_of(word)).collect();
+    assert_vectors(plain, &built.vectors, &vectors);
     true
+}
+
+fn assert_vectors(plain: &Plain, held: &[u8], vectors: &[Vec<usize>]) {
+    for (state, vector) in vectors.iter().enumerate() {
+        assert_eq!(vector_at(held, plain.n, vectors.len(), state), bytes_of(vector));
+    }
 }
 
 fn smallest_by_words(plain: &Plain, chart: &[u8]) -> bool {
@@ -344,9 +354,7 @@ fn smallest_by_words(plain: &Plain, chart: &[u8]) -> bool {
     assert_eq!(built.answer, Ok((words.len(), reverse_words.len())));
     assert_eq!(built.table[..table.len()], table);
     assert_eq!(built.reverse_table[..reverse_table.len()], reverse_table);
-    for (place, column) in columns.iter().enumerate() {
-        assert_eq!(vector_at(&built.reverse_vectors, plain.n, columns.len(), place), bytes_of(column));
-    }
+    assert_vectors(plain, &built.reverse_vectors, &columns);
     for (state, word) in words.iter().enumerate() {
         assert_eq!(built.rows[state * 128..][..columns.len()], bytes_of(&row(word)));
     }
@@ -377,7 +385,7 @@ fn largest_rooms_hit_exactly_and_missed_by_one() {
 }
 
 #[test]
-fn tight_charts_have_the_counts_they_were_made_for() {
+fn tight_charts_have_the_vectors_they_were_made_for() {
     let mut rng = Rng::new(SEED);
     for count in tight::NEAR_ROOMS {
         let chart = tight::with_vectors(grades::sound(&mut rng), count).bytes();
@@ -388,6 +396,11 @@ fn tight_charts_have_the_counts_they_were_made_for() {
         }
         assert_eq!(smallest(&chart, 300, count.min(128) - 1).answer, Err(refused(6, &[])));
     }
+}
+
+#[test]
+fn tight_charts_have_the_smallest_states_they_were_made_for() {
+    let mut rng = Rng::new(SEED);
     for (apart, count) in [(false, 128), (true, 129)] {
         let chart = tight::remembering(grades::sound(&mut rng), 7, apart).bytes();
         assert_eq!(smallest(&chart, 300, 64).answer.unwrap().0, count);
@@ -453,16 +466,19 @@ fn plain_row_times(plain: &Plain, vector: &[u8], x: usize) -> Vec<u8> {
     (0..plain.n).map(|q| at(q) as u8).collect()
 }
 
+/// All built tables of all good charts: each with its chart and its count.
+fn tables_with_charts() -> impl Iterator<Item = (Vec<u8>, Vec<u8>, usize)> {
+    let with_chart =
+        |chart: Vec<u8>| built_tables(&chart).into_iter().map(move |(table, count)| (chart.clone(), table, count));
+    good_charts().flat_map(with_chart)
+}
+
 fn sheets() -> Vec<Sheet> {
-    let mut sheets = Vec::new();
-    for chart in good_charts() {
-        let m = usize::from(chart[3]);
-        for (table, count) in built_tables(&chart) {
-            if let Some((bytes, lines)) = reached_pairs(&chart, &table, m, 60) {
-                sheets.push(Sheet { chart: chart.clone(), table, count, bytes, lines });
-            }
-        }
-    }
+    let reached = |(chart, table, count): (Vec<u8>, Vec<u8>, usize)| {
+        let (bytes, lines) = reached_pairs(&chart, &table, usize::from(chart[3]), 60)?;
+        Some(Sheet { chart, table, count, bytes, lines })
+    };
+    let sheets: Vec<Sheet> = tables_with_charts().filter_map(reached).collect();
     assert!(sheets.len() > 200, "only {} sheets were made", sheets.len());
     sheets
 }
@@ -589,19 +605,17 @@ fn a_step_looks_at_its_own_row_only_and_after_its_letter() {
 
 #[test]
 fn printed_tables() {
-    for chart in good_charts() {
+    for (chart, table, count) in tables_with_charts() {
         let plain = Plain::of(&chart);
-        for (table, count) in built_tables(&chart) {
-            let len = 13 + (9 + 4 * plain.m) * count + 9;
-            let mut text = vec![ENTRY; len + SLACK];
-            assert_eq!(print_table(&chart, &table, count, plain.m, &mut text), Ok(len));
-            assert!(all_are(&text[len..], ENTRY));
-            assert_eq!(text[..len], plain_text(&plain, &table, count));
-            let mut short = vec![ENTRY; len - 1];
-            assert_eq!(print_table(&chart, &[], count, plain.m, &mut short), Err(refused(5, &[])));
-            assert_eq!(print_table(&chart, &[], count, plain.m, &mut text), Err(refused(9, &[])));
-            assert!(all_are(&short, ENTRY));
-        }
+        let len = 13 + (9 + 4 * plain.m) * count + 9;
+        let mut text = vec![ENTRY; len + SLACK];
+        assert_eq!(print_table(&chart, &table, count, plain.m, &mut text), Ok(len));
+        assert!(all_are(&text[len..], ENTRY));
+        assert_eq!(text[..len], plain_text(&plain, &table, count));
+        let mut short = vec![ENTRY; len - 1];
+        assert_eq!(print_table(&chart, &[], count, plain.m, &mut short), Err(refused(5, &[])));
+        assert_eq!(print_table(&chart, &[], count, plain.m, &mut text), Err(refused(9, &[])));
+        assert!(all_are(&short, ENTRY));
     }
 }
 

@@ -113,17 +113,19 @@ fn every_reply_of_the_sheet_check_occurs() {
 fn tables_get_the_replies_they_were_made_for() {
     for (number, case) in table_cases().enumerate() {
         assert_eq!(case.check().number == 0, case.sound, "case {number}");
-        for (walk, walked) in walks(&case) {
-            let expected = match (case.sound, walk.bad_at) {
-                (false, _) => (9, &[][..]),
-                (true, Some(place)) => (8, &[place][..]),
-                (true, None) => (0, &walked.word.values[..]),
-            };
-            assert_eq!(walked.word, reply(expected.0, expected.1), "case {number}");
-            assert!(walk.state < case.table.count || walked.grade == reply(9, &[]), "case {number}");
-            assert!(walk.letter < case.table.m || walked.step.number >= 8, "case {number}");
-        }
+        walks(&case).for_each(|(walk, walked)| assert_walked(number, &case, walk, &walked));
     }
+}
+
+fn assert_walked(number: usize, case: &TableCase, walk: &Walk, walked: &Walked) {
+    let expected = match (case.sound, walk.bad_at) {
+        (false, _) => (9, &[][..]),
+        (true, Some(place)) => (8, &[place][..]),
+        (true, None) => (0, &walked.word.values[..]),
+    };
+    assert_eq!(walked.word, reply(expected.0, expected.1), "case {number}");
+    assert!(walk.state < case.table.count || walked.grade == reply(9, &[]), "case {number}");
+    assert!(walk.letter < case.table.m || walked.step.number >= 8, "case {number}");
 }
 
 #[test]

@@ -112,44 +112,50 @@ impl<'a> Plain<'a> {
     }
 }
 
-/// First words in shortlex order of all different keys, and the table they make. Words are tried length by length
-/// until a whole length brings nothing new; nothing where a length would have more than `most` words.
+/// First words in shortlex order of all different keys, and the table they make; nothing where a length would have more
+/// than `most` words.
 pub fn plain_listing<K: PartialEq>(
     m: usize,
     most: usize,
     key: impl Fn(&[u8]) -> K,
     grade: impl Fn(&[u8]) -> usize,
 ) -> Option<(Vec<Vec<u8>>, Vec<u8>)> {
-    let mut listed: Vec<(Vec<u8>, K)> = Vec::new();
-    let mut level: Vec<Vec<u8>> = vec![Vec::new()];
-    loop {
-        let before = listed.len();
-        for word in &level {
-            let found = key(word);
-            if listed.iter().all(|(_, known)| *known != found) {
-                listed.push((word.clone(), found));
-            }
-        }
-        if listed.len() == before {
-            break;
-        }
+    let listed = first_words(m, most, &key)?;
+    let number = |word: &[u8]| {
+        let found = key(word);
+        listed.iter().position(|(_, known)| *known == found).unwrap()
+    };
+    let row = |word: &[u8]| {
+        let nexts = (0..m).flat_map(|x| (number(&longer(word, x)) as u16).to_be_bytes());
+        std::iter::once(grade(word) as u8).chain(nexts).collect::<Vec<u8>>()
+    };
+    let table = listed.iter().flat_map(|(word, _)| row(word)).collect();
+    Some((listed.into_iter().map(|(word, _)| word).collect(), table))
+}
+
+/// Words are tried length by length until a whole length brings no new key.
+fn first_words<K: PartialEq>(m: usize, most: usize, key: impl Fn(&[u8]) -> K) -> Option<Vec<(Vec<u8>, K)>> {
+    let mut listed = Vec::new();
+    let mut level = vec![Vec::new()];
+    while add_new(&mut listed, &level, &key) {
         level = level.iter().flat_map(|word| (0..m).map(|x| longer(word, x))).collect();
         if level.len() > most {
             return None;
         }
     }
-    let number = |word: &[u8]| {
+    Some(listed)
+}
+
+/// Lists the words that have new keys, and answers whether there are any.
+fn add_new<K: PartialEq>(listed: &mut Vec<(Vec<u8>, K)>, words: &[Vec<u8>], key: impl Fn(&[u8]) -> K) -> bool {
+    let before = listed.len();
+    for word in words {
         let found = key(word);
-        listed.iter().position(|(_, known)| *known == found).unwrap()
-    };
-    let mut table = Vec::new();
-    for (word, _) in &listed {
-        table.push(grade(word) as u8);
-        for x in 0..m {
-            table.extend_from_slice(&(number(&longer(word, x)) as u16).to_be_bytes());
+        if listed.iter().all(|(_, known)| *known != found) {
+            listed.push((word.clone(), found));
         }
     }
-    Some((listed.into_iter().map(|(word, _)| word).collect(), table))
+    listed.len() > before
 }
 
 pub fn longer(word: &[u8], x: usize) -> Vec<u8> {
