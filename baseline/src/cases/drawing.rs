@@ -125,19 +125,17 @@ fn vector(rng: &mut Rng, few: &[u8], n: usize) -> Vec<u8> {
 fn matrix(rng: &mut Rng, grades: &GradeTables, few: &[u8], n: usize, style: Style) -> Vec<u8> {
     let e = grades.e as u8;
     let near = rng.range(1, 3);
-    let mut entries = vec![0; n * n];
-    for (p, row) in entries.chunks_exact_mut(n).enumerate() {
+    let mut entries = Vec::new();
+    for p in 0..n {
         let on = rng.below(n);
-        for (q, entry) in row.iter_mut().enumerate() {
-            *entry = match style {
-                Style::Dense => rng.pick(few),
-                Style::Sparse if rng.chance(near, n) => rng.pick(few),
-                Style::Plain if rng.chance(near, n) => e,
-                Style::Map if q == on => e,
-                Style::Path if q == p || q == p + 1 => rng.pick(few),
-                _ => 0,
-            };
-        }
+        entries.extend((0..n).map(|q| match style {
+            Style::Dense => rng.pick(few),
+            Style::Sparse if rng.chance(near, n) => rng.pick(few),
+            Style::Plain if rng.chance(near, n) => e,
+            Style::Map if q == on => e,
+            Style::Path if q == p || q == p + 1 => rng.pick(few),
+            _ => 0,
+        }));
     }
     entries
 }

@@ -77,9 +77,7 @@ impl House {
         let mut to: Vec<usize> = (0..self.count).collect();
         rng.shuffle(&mut to[1..]);
         let mut house = self.clone();
-        for (from, &to) in to.iter().enumerate() {
-            house.set_grade(to, self.grade(from));
-        }
+        (0..self.count).for_each(|state| house.set_grade(to[state], self.grade(state)));
         for (state, letter) in self.ways() {
             house.set_next(to[state], letter, to[self.next(state, letter)]);
         }

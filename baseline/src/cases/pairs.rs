@@ -21,13 +21,12 @@ pub fn reached_pairs(chart: &[u8], rows: &[u8], m: usize, most: usize) -> Option
         }
         let held = lines[line].clone();
         let row = &rows[usize::from(u16::from_be_bytes([held[0], held[1]])) * row_len..][..row_len];
-        for letter in 0..m {
+        let next = |letter: usize| {
             let mut next = pair(next_of(row, letter), &held[2..]);
             row_times(&grades, &held[2..], chart.matrix(letter), &mut next[2..]);
-            if known.insert(next.clone()) {
-                lines.push(next);
-            }
-        }
+            next
+        };
+        lines.extend((0..m).map(next).filter(|next| known.insert(next.clone())));
         line += 1;
     }
     Some((lines.concat(), lines.len()))

@@ -137,21 +137,12 @@ fn spoiled(rng: &mut Rng, mut lines: Vec<Vec<u8>>, fault: TextFault) -> (Vec<u8>
     match fault {
         TextFault::UpperCase => wrong = upper_case(rng, &mut lines) + 1,
         TextFault::NoNewline => drop(lines[at].pop()),
-        TextFault::MissingLine => {
-            wrong = last_of_kind(&lines, at) + 1;
-            lines.remove(at);
-        }
-        TextFault::ExtraLine => {
-            wrong = last_of_kind(&lines, at) + 2;
-            lines.insert(at, lines[at].clone());
-        }
+        TextFault::MissingLine => wrong = without_line(&mut lines, at) + 1,
+        TextFault::ExtraLine => wrong = with_line_twice(&mut lines, at) + 1,
         TextFault::CarriageReturn => put_in_line(&mut lines[at], usize::MAX, b'\r'),
         TextFault::WrongCount => change(&mut lines[at], 5, rng),
         TextFault::WrongKind => change(&mut lines[at], 1, rng),
-        TextFault::NotHex => {
-            let digit = rng.range(0, lines[at].len() - 2);
-            lines[at][digit] = rng.pick(b"gxG/:@`{\0\xff");
-        }
+        TextFault::NotHex => not_hex(&mut lines[at], rng),
         TextFault::Space => {
             let before = rng.below(lines[at].len());
             put_in_line(&mut lines[at], before, b' ');
@@ -184,6 +175,19 @@ fn last_of_kind(lines: &[Vec<u8>], at: usize) -> usize {
     lines.iter().rposition(|line| line[..2] == lines[at][..2]).unwrap()
 }
 
+/// Takes a line out; answers the line where that shows.
+fn without_line(lines: &mut Vec<Vec<u8>>, at: usize) -> usize {
+    let shows = last_of_kind(lines, at);
+    lines.remove(at);
+    shows
+}
+
+/// Puts a line in twice; answers the line where that shows.
+fn with_line_twice(lines: &mut Vec<Vec<u8>>, at: usize) -> usize {
+    lines.insert(at, lines[at].clone());
+    last_of_kind(lines, at)
+}
+
 /// Turns one letter digit upper case, or puts one in where there is none; answers its line.
 fn upper_case(rng: &mut Rng, lines: &mut [Vec<u8>]) -> usize {
     let with_letter: Vec<usize> = (0..lines.len()).filter(|&i| lines[i].iter().any(u8::is_ascii_lowercase)).collect();
@@ -201,6 +205,12 @@ fn upper_case(rng: &mut Rng, lines: &mut [Vec<u8>]) -> usize {
 /// Puts a byte before the given one, but not after the newline.
 fn put_in_line(line: &mut Vec<u8>, before: usize, byte: u8) {
     line.insert(before.min(line.len() - 1), byte);
+}
+
+/// Puts a byte that is no digit in a digit's place.
+fn not_hex(line: &mut [u8], rng: &mut Rng) {
+    let digit = rng.range(0, line.len() - 2);
+    line[digit] = rng.pick(b"gxG/:@`{\0\xff");
 }
 
 /// Changes one digit to another digit.

@@ -3,6 +3,7 @@
 
 use super::drawing::Drawing;
 use super::grades::GradeTables;
+use std::ops::Range;
 
 /// The rooms of the programs, one less and one more, for forward and reverse vectors.
 pub const NEAR_ROOMS: [usize; 6] = [127, 128, 129, 63, 64, 65];
@@ -12,17 +13,14 @@ pub const NEAR_ROOMS: [usize; 6] = [127, 128, 129, 63, 64, 65];
 pub fn turning(grades: GradeTables, cycles: &[usize], path: usize) -> Drawing {
     let n = path + cycles.iter().sum::<usize>();
     let mut drawing = blank(grades, n, 1);
-    for p in 1..path {
-        drawing.put(0, p - 1, p);
-    }
+    drawing.put_path(0, 0..path);
     if path > 0 {
         drawing.mark(0, path - 1);
     }
     let mut at = path;
     for &len in cycles {
-        for p in 0..len {
-            drawing.put(0, at + p, at + (p + 1) % len);
-        }
+        drawing.put_path(0, at..at + len);
+        drawing.put(0, at + len - 1, at);
         drawing.mark(at, at);
         at += len;
     }
@@ -42,9 +40,7 @@ pub fn remembering(grades: GradeTables, back: usize, apart: bool) -> Drawing {
     let mut drawing = blank(grades, back + 1 + 2 * usize::from(apart), 2);
     for letter in 0..2 {
         drawing.put(letter, 0, 0);
-        for p in 1..back {
-            drawing.put(letter, p, p + 1);
-        }
+        drawing.put_path(letter, 1..back + 1);
     }
     drawing.put(1, 0, 1);
     drawing.mark(0, back);
@@ -64,7 +60,7 @@ pub fn register(grades: GradeTables, [n, m]: [usize; 2], back: usize, seen: usiz
     let held = n - back;
     for letter in 0..m {
         (0..held).for_each(|p| drawing.put(letter, p, p));
-        (held + 1..n).for_each(|q| drawing.put(letter, q - 1, q));
+        drawing.put_path(letter, held..n);
         if letter % 2 == 1 {
             drawing.put(letter, held - 1, held);
         }
@@ -82,6 +78,11 @@ impl Drawing {
     /// The unit from p to q under a letter.
     fn put(&mut self, letter: usize, p: usize, q: usize) {
         self.matrices[(letter * self.n + p) * self.n + q] = self.grades.e as u8;
+    }
+
+    /// The unit from each of the states to the next of them.
+    fn put_path(&mut self, letter: usize, states: Range<usize>) {
+        (states.start + 1..states.end).for_each(|q| self.put(letter, q - 1, q));
     }
 
     /// The unit at one state of the start vector and at one of the end vector.
