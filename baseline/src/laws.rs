@@ -64,26 +64,10 @@ fn one(k: usize, holds: impl Fn(usize) -> bool) -> Option<[usize; 1]> {
 
 /// The first pair for which the law fails, the second grade moving faster.
 fn two(k: usize, holds: impl Fn(usize, usize) -> bool) -> Option<[usize; 2]> {
-    for a in 0..k {
-        for b in 0..k {
-            if !holds(a, b) {
-                return Some([a, b]);
-            }
-        }
-    }
-    None
+    (0..k).find_map(|a| one(k, |b| holds(a, b)).map(|[b]| [a, b]))
 }
 
 /// The first triple for which the law fails, the last grade moving fastest.
 fn three(k: usize, holds: impl Fn(usize, usize, usize) -> bool) -> Option<[usize; 3]> {
-    for a in 0..k {
-        for b in 0..k {
-            for c in 0..k {
-                if !holds(a, b, c) {
-                    return Some([a, b, c]);
-                }
-            }
-        }
-    }
-    None
+    (0..k).find_map(|a| two(k, |b, c| holds(a, b, c)).map(|[b, c]| [a, b, c]))
 }

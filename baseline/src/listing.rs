@@ -33,36 +33,54 @@ type Numbers = HashMap<Box<[u8]>, usize, BuildHasherDefault<Mix>>;
 /// Lists all values with distinct keys and writes their table, answering how many there are, or nothing where they
 /// outnumber the room. States are taken in the order of their numbers and letters in rising order, so a value is first
 /// met at its first word.
-pub fn list(construction: &impl Construction, lent: Lent) -> Option<usize> {
-    let Lent { table, places, stride, width, room } = lent;
-    let row_len = 1 + 2 * construction.letters();
+pub fn list(construction: &impl Construction, mut lent: Lent) -> Option<usize> {
     let mut scratch = Vec::new();
     let mut numbers = Numbers::default();
-    construction.first(&mut places[..width]);
-    numbers.insert(construction.key(&places[..width], &mut scratch).into(), 0);
+    let first = &mut lent.places[..lent.width];
+    construction.first(first);
+    numbers.insert(construction.key(first, &mut scratch).into(), 0);
     let mut state = 0;
     while state < numbers.len() {
-        let row = &mut table[state * row_len..][..row_len];
-        row[0] = construction.grade(&places[state * stride..][..width]);
-        for letter in 0..construction.letters() {
-            let count = numbers.len();
-            let (kept, free) = places.split_at_mut(count * stride);
-            construction.next(&kept[state * stride..][..width], letter, &mut free[..width]);
-            let key = construction.key(&free[..width], &mut scratch);
-            let next = match numbers.get(key) {
-                Some(&known) => known,
-                None if count == room => return None,
-                None => {
-                    numbers.insert(key.into(), count);
-                    count
-                }
-            };
-            write_next(row, letter, next);
-        }
+        expand(construction, &mut lent, &mut numbers, &mut scratch, state)?;
         state += 1;
     }
-    places[numbers.len() * stride..(room + 1) * stride].fill(0);
+    lent.places[numbers.len() * lent.stride..(lent.room + 1) * lent.stride].fill(0);
     Some(numbers.len())
+}
+
+/// Writes a state's row and lists the new values that its letters lead to; nothing where they outnumber the room.
+fn expand(
+    construction: &impl Construction,
+    lent: &mut Lent,
+    numbers: &mut Numbers,
+    scratch: &mut Vec<u8>,
+    state: usize,
+) -> Option<()> {
+    let Lent { table, places, stride, width, room } = lent;
+    let (stride, width) = (*stride, *width);
+    let row_len = 1 + 2 * construction.letters();
+    let row = &mut table[state * row_len..][..row_len];
+    row[0] = construction.grade(&places[state * stride..][..width]);
+    for letter in 0..construction.letters() {
+        let (kept, free) = places.split_at_mut(numbers.len() * stride);
+        construction.next(&kept[state * stride..][..width], letter, &mut free[..width]);
+        let next = number_of(construction.key(&free[..width], scratch), numbers, *room)?;
+        write_next(row, letter, next);
+    }
+    Some(())
+}
+
+/// The number of a key, a new one where it is not known yet; nothing where the room is full.
+fn number_of(key: &[u8], numbers: &mut Numbers, room: usize) -> Option<usize> {
+    let count = numbers.len();
+    match numbers.get(key) {
+        Some(&known) => Some(known),
+        None if count == room => None,
+        None => {
+            numbers.insert(key.into(), count);
+            Some(count)
+        }
+    }
 }
 
 /// A quick hash for short byte keys; nothing here needs protection against chosen keys.

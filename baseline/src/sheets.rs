@@ -47,17 +47,21 @@ impl<'a> Sheet<'a> {
             return Err(Refusal::start_pair());
         }
         let grades = Grades::of(chart);
-        for (line, held) in self.pairs.iter().enumerate() {
-            let (row, vector) = (table.row(state_of(held)), &held[2..]);
-            if row[0] != combine(&grades, vector, chart.end()) {
-                return Err(Refusal::line_grade(line));
-            }
-            for letter in 0..table.m {
-                let mut next = pair(next_of(row, letter), vector);
-                row_times(&grades, vector, chart.matrix(letter), &mut next[2..]);
-                if !self.known.contains(next.as_slice()) {
-                    return Err(Refusal::next_pair(line, letter));
-                }
+        (0..self.pairs.len()).try_for_each(|line| self.line_accepted(chart, &grades, table, line))
+    }
+
+    /// 12, then 13 letter by letter.
+    fn line_accepted(&self, chart: &Chart, grades: &Grades, table: &Table, line: usize) -> Result<(), Refusal> {
+        let held = self.pairs[line];
+        let (row, vector) = (table.row(state_of(held)), &held[2..]);
+        if row[0] != combine(grades, vector, chart.end()) {
+            return Err(Refusal::line_grade(line));
+        }
+        for letter in 0..table.m {
+            let mut next = pair(next_of(row, letter), vector);
+            row_times(grades, vector, chart.matrix(letter), &mut next[2..]);
+            if !self.known.contains(next.as_slice()) {
+                return Err(Refusal::next_pair(line, letter));
             }
         }
         Ok(())

@@ -41,20 +41,19 @@ fn chart_of(text: &[u8]) -> Result<Vec<u8>, Refusal> {
     if !shape.in_range() {
         return Err(Refusal::size());
     }
-    for (kind, len, times) in frames_after_head(&shape) {
-        for _ in 0..times {
-            chart.extend(lines.take(kind, len)?);
-        }
+    for (kind, len) in frames_after_head(&shape) {
+        chart.extend(lines.take(kind, len)?);
     }
     lines.ended()?;
     check(&chart)?;
     Ok(chart)
 }
 
-/// Kind, payload length and number of the lines that follow the head.
-fn frames_after_head(shape: &Shape) -> [(u8, usize, usize); 5] {
+/// Kind and payload length of each line that follows the head.
+fn frames_after_head(shape: &Shape) -> impl Iterator<Item = (u8, usize)> {
     let Shape { k, n, m, .. } = *shape;
-    [(0x02, k, k), (0x03, k, k), (0x04, n, 1), (0x05, n, 1), (0x06, n, m * n)]
+    let frames = [(0x02, k, k), (0x03, k, k), (0x04, n, 1), (0x05, n, 1), (0x06, n, m * n)];
+    frames.into_iter().flat_map(|(kind, len, times)| std::iter::repeat_n((kind, len), times))
 }
 
 /// Text still to be read, and the number of its first line.

@@ -44,9 +44,14 @@ fn spread(table: &[u8], k: usize) -> [u8; ROW * ROW] {
 pub fn row_times(grades: &Grades, v: &[u8], matrix: &[u8], out: &mut [u8]) {
     out.fill(0);
     for (&left, row) in v.iter().zip(matrix.chunks_exact(v.len())) {
-        for (sum, &right) in out.iter_mut().zip(row) {
-            *sum = grades.join(*sum, grades.product(left, right));
-        }
+        join_times(grades, left, row, out);
+    }
+}
+
+/// Joins a grade times each entry of a row to the sum at its place.
+fn join_times(grades: &Grades, left: u8, row: &[u8], sums: &mut [u8]) {
+    for (sum, &right) in sums.iter_mut().zip(row) {
+        *sum = grades.join(*sum, grades.product(left, right));
     }
 }
 
