@@ -6,10 +6,10 @@ use Rattle.reading.proofs.read_chart.Statement.{statement}
 use Rattle.reading.proofs.read_chart.Tie as tie
 
 returns : tie.Need-returns
-returns c = short-read _ _ (c .if1 .taken)
+returns c = short-read _ _ (omega arith)
 
 read-whole-requires : tie.Need-read-whole-requires
-read-whole-requires c κs = search
+read-whole-requires c κs = omega arith
 
 enum-known-size : tie.Need-enum-known-size
 enum-known-size c = search
