@@ -42,7 +42,7 @@ pub fn rooms_fit(
     room_fits(4096, shape.letters, reverse, room, table, rows)
 }
 
-// The same with the rooms tested first.
+// The Brzozowski table of a checked chart, the rooms tested first.
 pub fn build_both(
     chart: &[u8],
     shape: Shape,

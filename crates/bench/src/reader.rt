@@ -1,4 +1,4 @@
-// The bench reader: a lent table and the present state. Its methods are thin, over `tables`.
+// The bench reader: a lent table and the present state. Its methods are thin, over `steps`.
 use replies::Graded;
 use replies::Stepped;
 ghost use mathlib.Core.Path.{_≡_};
