@@ -111,20 +111,25 @@ lines-some s kind a b d h = go (leb kind 1) (leb kind 3) (leb kind 5)
     go false false true = omega arith
     go false false false = rw (le-leb kind 6 h) (product d b)
 
--- ---- their bytes
+-- ---- a sum over them
 
-unfoldable pub bytesDue : List (ℕ × ℕ) → ℕ
-bytesDue [] = 0
-bytesDue (d ∷ ds) = d .1 + bytesDue ds
+-- of a measure of each line's width
+unfoldable pub sumDue : (ℕ → ℕ) → List (ℕ × ℕ) → ℕ
+sumDue f [] = 0
+sumDue f (d ∷ ds) = f (d .1) + sumDue f ds
 
-pub bytes-replicate : (l kind w : ℕ) (ds : List (ℕ × ℕ)) → bytesDue (replicate l (kind, w) ++ ds) ≡ l * w + bytesDue ds
-unfolding bytesDue
-bytes-replicate zero kind w ds = omega (arith, zero-mul w)
-bytes-replicate (suc l) kind w ds = omega (arith, bytes-replicate l kind w ds, suc-mul l w)
+pub sum-replicate : (f : ℕ → ℕ) (l kind w : ℕ) (ds : List (ℕ × ℕ)) → sumDue f (replicate l (kind, w) ++ ds) ≡ l * f w + sumDue f ds
+unfolding sumDue
+sum-replicate f zero kind w ds = omega (arith, zero-mul (f w))
+sum-replicate f (suc l) kind w ds = omega (arith, sum-replicate f l kind w ds, suc-mul l (f w))
+
+-- their bytes
+abbrev pub bytesDue : List (ℕ × ℕ) → ℕ
+bytesDue ds = sumDue (λ w. w) ds
 
 -- a chart's bytes are few enough
 pub bytes-few : (s : Counts) → Few s → headSize + bytesDue (duesFrom (s .k) (s .n) (s .m) 5 2) ≤ chartMost
-unfolding bytesDue duesFrom linesOf widthOf
+unfolding sumDue duesFrom linesOf widthOf
 bytes-few s f =
-    simp bytes-replicate
+    simp (sum-replicate (λ w. w))
     (omega (arith, product {a = s .k} {b = s .k} {c = 16} {d = 16} (f .grades) (f .grades), product {a = s .m * s .n} {b = s .n} {c = 384} {d = 24} (product {a = s .m} {b = s .n} {c = 16} {d = 24} (f .letters) (f .states)) (f .states)))

@@ -24,7 +24,7 @@ use Rattle.rest_lines.specs.Reading.{RestIn, restLines, ChartRead}
 use Rattle.lists.proofs.Lent.{length-inFront}
 use Rattle.lists.proofs.Front.{front-more}
 use Rattle.frames.proofs.FrameRead.{bad-kind, frame-inside, length-payload}
-use Rattle.dues.proofs.Dues.{restDues, rest-line, rest-next, rest-end, lines-over, lines-some, bytesDue, bytes-few}
+use Rattle.dues.proofs.Dues.{restDues, rest-line, rest-next, rest-end, lines-over, lines-some, sumDue, bytesDue, bytes-few}
 
 -- the lines of ds are due at a line and a place of the text, behind the bytes in front of the buffer; all in all they come to `total`
 pub record Reading (text : List ℕ) (total : Lines) (old buf : List ℕ) (ds : List (ℕ × ℕ)) (line pos at : ℕ) : Type 0 where
@@ -61,7 +61,7 @@ module _ {text : List ℕ} {total : Lines} {old buf : List ℕ} {line pos at : �
 
     -- it is
     read-line : (part : List ℕ) → frameFits kind w text pos ≡ true → part ≡ inFront (payload w text pos) (midOf at (length buf - at) buf) → Reading text total old (putMid at (length buf - at) buf part) ds (line + 1) (pos + lineLength w) (at + w)
-    unfolding linesFrom bytesDue
+    unfolding linesFrom sumDue
     read-line part e q =
         record {
           done = r .done ++ payload w text pos;
@@ -137,7 +137,7 @@ module _ {text old : List ℕ} {s : Counts} {buf : List ℕ} {c : Cursor} (r : L
 
       -- there is room for its bytes, and no number on the way is too large
       pub loop-room : c .at + due .width ≤ length buf
-      unfolding bytesDue
+      unfolding sumDue
       loop-room = omega (arith, line .fits, loop-kept, r .ranges .room)
 
       pub loop-frame : FrameIn (c .pos) (due .width) (midOf (c .at) (length buf - c .at) buf)
@@ -148,7 +148,7 @@ module _ {text old : List ℕ} {s : Counts} {buf : List ℕ} {c : Cursor} (r : L
           }
 
       pub loop-step : Stepping c due s
-      unfolding bytesDue
+      unfolding sumDue
       loop-step =
           record {
             ruled = rw same at ruled;

@@ -4,7 +4,7 @@ use mathlib.Core.Bool.{true}
 use mathlib.Core.List.{List, [], _∷_, _++_, append-assoc, append-nil}
 use mathlib.Core.Logic.{⊎-elim, _↔_}
 use Prim.Native.Nat.{ℕ, zero, suc, _+_, _*_, _≤_, _<_}
-use native.Mathlib.Nat.{add-zero, zero-mul, suc-mul}
+use native.Mathlib.Nat.{add-zero}
 use native.Mathlib.Omega.{arith}
 use lib.ListN.{length, getD, take, drop, replicate, length-append, length-take, length-drop, List·getD-append, List·getD-eq-default}
 use lib.Seq.{take-length, take-add, getD-take, getD-drop, getD-append-add, length-take-le}
@@ -19,7 +19,7 @@ use Rattle.lists.proofs.Bound.{le-or-lt, product}
 use Rattle.texts.specs.ChartText.{framesOf, textOf}
 use Rattle.frames.proofs.FrameWritten.{length-frame}
 use Rattle.texts.proofs.FrameBack.{Bytes, frame-read, payload-read}
-use Rattle.dues.proofs.Dues.{bytesDue, bytes-replicate}
+use Rattle.dues.proofs.Dues.{sumDue, sum-replicate, bytesDue}
 use Rattle.texts.proofs.TextBack.{dues-same, text-back}
 
 -- ---- one line
@@ -57,7 +57,7 @@ Small [] = Unit {0}
 Small (d ∷ ds) = (d .0 < 256) × (d .1 < 65536) × Small ds
 
 lines-read : (c : List ℕ) (ds : List (ℕ × ℕ)) (text before : List ℕ) (line pos at : ℕ) → Bytes c → Small ds → pos ≡ length before → text ≡ before ++ framesOf c ds at → at + bytesDue ds ≤ length c → linesFrom ds text line pos (take at c) ≡ chart (take (at + bytesDue ds) c)
-unfolding linesFrom framesOf bytesDue Small
+unfolding linesFrom framesOf sumDue Small
 lines-read c [] text before line pos at b s z q h =
     let n : length text ≡ length before = ap length q ∙ ap length (append-nil before) in
     simp (le-leb (length text) pos (omega arith), add-zero)
@@ -86,17 +86,11 @@ small-dues k n m a b =
     (small-lines (linesOf k n m 5) 5 n _ (omega arith) (omega arith) (small-lines (linesOf k n m 6) 6 n [] (omega arith) (omega arith) tt))))
 
 -- how long they are
-lengthDue : List (ℕ × ℕ) → ℕ
-lengthDue [] = 0
-lengthDue (d ∷ ds) = lineLength (d .1) + lengthDue ds
-
-length-lines : (l kind w : ℕ) (ds : List (ℕ × ℕ)) → lengthDue (replicate l (kind, w) ++ ds) ≡ l * lineLength w + lengthDue ds
-unfolding lengthDue
-length-lines zero kind w ds = omega (arith, zero-mul (lineLength w))
-length-lines (suc l) kind w ds = omega (arith, length-lines l kind w ds, suc-mul l (lineLength w))
+abbrev lengthDue : List (ℕ × ℕ) → ℕ
+lengthDue ds = sumDue lineLength ds
 
 length-frames : (c : List ℕ) (ds : List (ℕ × ℕ)) (at : ℕ) → at + bytesDue ds ≤ length c → length (framesOf c ds at) ≡ lengthDue ds
-unfolding framesOf bytesDue lengthDue
+unfolding framesOf sumDue
 length-frames c [] at h = refl
 length-frames c (d ∷ ds) at h =
     let p : List ℕ = take (d .1) (drop at c) in
@@ -104,15 +98,15 @@ length-frames c (d ∷ ds) at h =
 
 -- a chart's text is short enough
 length-all : (k n m : ℕ) → k ≤ 16 → n ≤ 24 → m ≤ 16 → lineLength headSize + lengthDue (duesFrom k n m 5 2) ≤ textMost
-unfolding lengthDue duesFrom linesOf widthOf
+unfolding sumDue duesFrom linesOf widthOf
 length-all k n m a b d =
-    simp length-lines
+    simp (sum-replicate lineLength)
     (omega (arith, product {a = k} {b = lineLength k} {c = 16} {d = 39} a (omega arith), product {a = m * n} {b = lineLength n} {c = 384} {d = 55} (product {a = m} {b = n} {c = 16} {d = 24} d b) (omega arith)))
 
 -- the bytes of all lines are the chart's
 bytes-chart : (c : List ℕ) → headSize + bytesDue (dues c) ≡ chartSize c
-unfolding bytesDue dues duesFrom linesOf widthOf
-bytes-chart c = simp bytes-replicate (omega arith)
+unfolding sumDue dues duesFrom linesOf widthOf
+bytes-chart c = simp (sum-replicate (λ w. w)) (omega arith)
 
 -- ---- the text
 module _ (c : List ℕ) (bytes : Bytes c) (fits : headFits c ≡ true) (n : length c ≡ chartSize c) where
