@@ -1,16 +1,10 @@
 // Inner: reading a sheet's lines, and whether they fit. Some have a `requires`, so only proved code may call them.
 use replies::Shape;
+use rows::wide;
 ghost use mathlib.Core.Path.{_≡_};
-ghost use Prim.Native.Nat.{_<_};
 ghost use Rattle.paper.specs.Sheets.{lineAt, lineState, lineVector, lineFits, sheetFits};
 ghost use Rattle.cells.specs.Shaped.{Shaped};
 ghost use Rattle.lines.specs.Readable.{LineIn};
-
-pub fn wide(x: u8) -> usize
-    ensures { λ r. ⌜ (r ≡ x) × (r < 256) ⌝ }
-{
-    x as usize
-}
 
 // The state of line i.
 pub fn line_state(chart: &[u8], shape: Shape, sheet: &[u8], i: usize) -> usize
