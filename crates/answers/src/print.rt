@@ -1,10 +1,15 @@
 // What the three programs share: a chart's text in, what the program prints for it to standard output.
+use crate::Program;
+use libc::STDIN_FILENO;
 use libc::STDOUT_FILENO;
 ghost use mathlib.Core.Path.{_≡_};
+ghost use Prim.Native.Nat.{_≤_};
 ghost use lib.ListN.{length};
+ghost use Rattle.io.specs.Counts.{Counts};
+ghost use Rattle.shown.specs.Answered.{answerMost};
 
 // For standard input. One byte more than the longest chart's text: longer input is refused from there.
-pub fn text_buffer() -> [u8; 22494]
+fn text_buffer() -> [u8; 22494]
     ensures { λ r. ⌜ 22494 ≡ length r ⌝ }
 {
     [0; 22494]
@@ -17,23 +22,28 @@ fn answer_buffer() -> [u8; 9366]
     [0; 9366]
 }
 
-// Prints the Nerode table of a chart's text.
-pub fn nerode(text: &[u8]) {
+// What a program prints for a chart's text, by the call that is promised for it.
+fn answer(which: Program, text: &[u8], out: &mut [u8]) -> usize
+    requires { ⌜ answerMost ≤ length (now out) ⌝ }
+    ensures { λ r. ⌜ Counts r (now (out .exit)) ⌝ }
+{
+    match which {
+        Program::Nerode => crate::nerode(text, out),
+        Program::Reduced => crate::reduced(text, out),
+        Program::Brz => crate::brz(text, out),
+    }
+}
+
+// Writes that to standard output.
+pub fn write_answer(which: Program, text: &[u8]) {
     let mut out = answer_buffer();
-    let size = crate::nerode(text, &mut out);
+    let size = answer(which, text, &mut out);
     io::write_all(STDOUT_FILENO, &out[..size]);
 }
 
-// Prints the reduced Nerode table of a chart's text.
-pub fn reduced(text: &[u8]) {
-    let mut out = answer_buffer();
-    let size = crate::reduced(text, &mut out);
-    io::write_all(STDOUT_FILENO, &out[..size]);
-}
-
-// Prints the Brzozowski table of a chart's text.
-pub fn brz(text: &[u8]) {
-    let mut out = answer_buffer();
-    let size = crate::brz(text, &mut out);
-    io::write_all(STDOUT_FILENO, &out[..size]);
+// A whole program: the chart's text is standard input.
+pub fn run(which: Program) {
+    let mut text = text_buffer();
+    let got = io::read_full(STDIN_FILENO, &mut text);
+    write_answer(which, &text[..got]);
 }

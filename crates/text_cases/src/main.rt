@@ -1,8 +1,11 @@
 // Prints what the three programs print for each text on standard input, stored as `cases` says.
+use answers::Program;
+use answers::print::write_answer;
+
 fn print_all(text: &[u8]) {
-    answers::print::nerode(text);
-    answers::print::reduced(text);
-    answers::print::brz(text);
+    write_answer(Program::Nerode, text);
+    write_answer(Program::Reduced, text);
+    write_answer(Program::Brz, text);
 }
 
 fn answer_next() {
