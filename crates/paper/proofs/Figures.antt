@@ -11,7 +11,7 @@ use Rattle.paper.specs.Constructions.{statesOf, nextBytes, rowOf, stateR
 use Rattle.paper.specs.Builders.{placeOf, placed, vectorAt, roomFits, forwardRoom, forwardBuilt, forward, nerode, reduced, allZeros, backwardRoom, backwardBuilt, brzozowski}
 use Rattle.paper.specs.Sheets.{lineAt, lineState, lineVector, lineGradeFits, lineFits, sheetFits, otherPair, onSheet, gradeHolds, nextHolds, lineHolds, badLine, lineReply, sheetReply}
 use Rattle.paper.specs.Figures.{chartE, tableE, sheetE, chart32, chart2, chart13, reply, nerodeIn, reducedIn, brzIn, count, worked, stated}
-use Rattle.paper.specs.NearCases.{bare, unitBetween, larger, largerOfFour, oneSided, oneSidedWords, nines, forwardLeft, toldByGrade, forwards, nerodeE, vectorsE, forwardsDue, placesLeft, nearTried, nearDue}
+use Rattle.paper.specs.NearCases.{bare, unitBetween, larger, largerOfFour, oneSided, oneSidedWords, nines, forwardLeft, toldByGrade, forwards, nerodeE, vectorsE, forwardsDue, placesLeft, lastLineFails, nearTried, nearDue}
 
 -- what opens the definitions of each file, for the computations below
 of-lists : Unit {0}
@@ -59,7 +59,7 @@ unfolding chartE tableE sheetE chart32 chart2 chart13 reply nerodeIn reducedIn b
 of-figures = tt
 
 of-near-cases : Unit {0}
-unfolding bare unitBetween larger largerOfFour oneSided oneSidedWords nines forwardLeft toldByGrade forwards nerodeE vectorsE forwardsDue placesLeft nearTried nearDue
+unfolding bare unitBetween larger largerOfFour oneSided oneSidedWords nines forwardLeft toldByGrade forwards nerodeE vectorsE forwardsDue placesLeft lastLineFails nearTried nearDue
 of-near-cases = tt
 
 -- samples/ and pages/ open them too

@@ -1,11 +1,12 @@
--- Cases that tell the definitions from near ones, worked by hand from document 01: sides, the unit, what a key holds, every byte left.
+-- Cases that tell the definitions from near ones, worked by hand from document 01: sides, the unit, what a key holds, every byte left, the last line.
 use mathlib.Core.List.{List, [], _∷_, _++_}
 use Prim.Native.Nat.{ℕ}
 use lib.ListN.{replicate}
 use Rattle.paper.specs.Check.{checkReply}
 use Rattle.paper.specs.Vectors.{gradeOf, reverseOf}
 use Rattle.paper.specs.Builders.{Forward, placed, nerode, reduced, blank}
-use Rattle.paper.specs.Figures.{chartE, reply}
+use Rattle.paper.specs.Sheets.{sheetReply}
+use Rattle.paper.specs.Figures.{chartE, tableE, sheetE, reply}
 
 -- ---- the chart check
 
@@ -80,14 +81,20 @@ forwardsDue =
 unfoldable pub placesLeft : List ℕ
 placesLeft = placed 3 2 ((1 ∷ 2 ∷ []) ∷ []) (nines 7)
 
+-- ---- the sheet check
+
+-- E's sheet and the line (0: 0,1), whose grade is 1 and not state 0's
+unfoldable pub lastLineFails : List ℕ
+lastLineFails = reply (sheetReply chartE tableE 3 2 (sheetE ++ (0 ∷ 0 ∷ 0 ∷ 1 ∷ [])) 7)
+
 -- ---- together
 
 unfoldable pub nearTried : List (List (List ℕ))
-nearTried = (unitBetween ∷ placesLeft ∷ []) ∷ oneSidedWords ∷ forwards ∷ []
+nearTried = (unitBetween ∷ placesLeft ∷ lastLineFails ∷ []) ∷ oneSidedWords ∷ forwards ∷ []
 
 unfoldable pub nearDue : List (List (List ℕ))
 nearDue =
-    ((0 ∷ 3 ∷ 1 ∷ 1 ∷ 1 ∷ 1 ∷ 4 ∷ 13 ∷ 22 ∷ 23 ∷ 24 ∷ 25 ∷ []) ∷ (1 ∷ 2 ∷ 9 ∷ 0 ∷ 0 ∷ 0 ∷ 9 ∷ []) ∷ [])
+    ((0 ∷ 3 ∷ 1 ∷ 1 ∷ 1 ∷ 1 ∷ 4 ∷ 13 ∷ 22 ∷ 23 ∷ 24 ∷ 25 ∷ []) ∷ (1 ∷ 2 ∷ 9 ∷ 0 ∷ 0 ∷ 0 ∷ 9 ∷ []) ∷ (12 ∷ 6 ∷ []) ∷ [])
     ∷ ((2 ∷ 1 ∷ 0 ∷ []) ∷ (1 ∷ []) ∷ [])
     ∷ forwardsDue
     ∷ []
