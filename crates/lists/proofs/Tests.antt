@@ -28,15 +28,14 @@ pub pick-case {ℓ κ} : {X : Type ℓ} (P : X → Type κ) (b : Bool) (x y : X)
 pick-case P true x y f g = f refl
 pick-case P false x y f g = g refl
 
--- an answer of which something holds that does not hold of the refusal: the test passed, and it holds of the rest
-pub unless-passed {ℓ κ} : {X : Type ℓ} (P : X → Type κ) (b : Bool) (x y : X) → (P x → ⊥) → P (unless b x y) → (b ≡ true) × P y
-unless-passed P true x y f p = (refl, p)
-unless-passed P false x y f p = absurd (f p)
-
--- the same, where the refusal is told that the test failed
+-- an answer of which something holds that does not hold of the refusal, where the test failed: it passed, and that holds of the rest
 pub unless-told {ℓ κ} : {X : Type ℓ} (P : X → Type κ) (b : Bool) (x y : X) → (b ≡ false → P x → ⊥) → P (unless b x y) → (b ≡ true) × P y
 unless-told P true x y f p = (refl, p)
 unless-told P false x y f p = absurd (f refl p)
+
+-- the same, where it never holds of the refusal
+pub unless-passed {ℓ κ} : {X : Type ℓ} (P : X → Type κ) (b : Bool) (x y : X) → (P x → ⊥) → P (unless b x y) → (b ≡ true) × P y
+unless-passed P b x y f = unless-told P b x y (λ e. f)
 
 -- what a called test tells, where the code goes by its negation
 pub fell : {t a : Bool} → t ≡ a → not t ≡ true → a ≡ false
