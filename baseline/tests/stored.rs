@@ -97,6 +97,10 @@ fn every_reply_on_tables_occurs() {
     assert_occur("step", walked().map(|walked| walked.step), &[(0, 300), (8, 150), (9, 600)]);
     assert_occur("grade", walked().map(|walked| walked.grade), &[(0, 400), (9, 600)]);
     assert_occur("word", walked().map(|walked| walked.word), &[(0, 600), (8, 150), (9, 600)]);
+    assert_occur("read", walked().map(|walked| walked.read), &[(0, 600), (9, 600)]);
+    let (empty, whole): (Vec<Reply>, Vec<Reply>) =
+        walked().map(|walked| walked.vector).partition(|vector| vector.values.is_empty());
+    assert!(empty.len() >= 300 && whole.len() >= 300, "vector: {} empty, {} whole", empty.len(), whole.len());
 }
 
 #[test]
@@ -181,19 +185,19 @@ fn wrong_line(case: &SheetCase, plain: &Plain, sheet: &[Vec<usize>], line: usize
 fn walks_over_the_table_of_e() {
     let case = table_case(SEED, 0);
     assert_eq!((&case.table.rows[..], case.check()), (&E_TABLE[..], reply(0, &[])));
-    // State, letter and word of each walk, then the three replies, read off E's table and P3.
-    let by_hand: [(usize, usize, &[u8], [Reply; 3]); 6] = [
-        (0, 0, &[], [reply(0, &[1]), reply(0, &[0]), reply(0, &[0])]),
-        (0, 1, &[0], [reply(0, &[2]), reply(0, &[0]), reply(0, &[1])]),
-        (1, 0, &[1], [reply(0, &[1]), reply(0, &[1]), reply(0, &[0])]),
-        (2, 1, &[0, 1], [reply(0, &[2]), reply(0, &[0]), reply(0, &[1])]),
-        (3, 0, &[1, 0], [reply(9, &[]), reply(9, &[]), reply(0, &[0])]),
-        (1, 2, &[0, 1, 2, 0, 3], [reply(8, &[0]), reply(0, &[1]), reply(8, &[2])]),
+    // State, letter and word of each walk, then the five replies, read off E's table and P3.
+    let by_hand: [(usize, usize, &[u8], [Reply; 5]); 6] = [
+        (0, 0, &[], [reply(0, &[1]), reply(0, &[0]), reply(0, &[0]), reply(0, &[0]), reply(0, &[0, 0])]),
+        (0, 1, &[0], [reply(0, &[2]), reply(0, &[0]), reply(0, &[1]), reply(0, &[1]), reply(0, &[0, 0])]),
+        (1, 0, &[1], [reply(0, &[1]), reply(0, &[1]), reply(0, &[0]), reply(0, &[0]), reply(0, &[1, 0])]),
+        (2, 1, &[0, 1], [reply(0, &[2]), reply(0, &[0]), reply(0, &[1]), reply(0, &[1]), reply(0, &[2, 1])]),
+        (3, 0, &[1, 0], [reply(9, &[]), reply(9, &[]), reply(0, &[0]), reply(0, &[0]), reply(0, &[])]),
+        (1, 2, &[0, 1, 2, 0, 3], [reply(8, &[0]), reply(0, &[1]), reply(8, &[2]), reply(0, &[1]), reply(0, &[1, 0])]),
     ];
     assert_eq!(case.walks.len(), by_hand.len());
     for ((walk, walked), (state, letter, word, replies)) in walks(&case).zip(by_hand) {
         assert_eq!((walk.state, walk.letter, &walk.word[..]), (state, letter, word));
-        assert_eq!([walked.step, walked.grade, walked.word], replies);
+        assert_eq!([walked.step, walked.grade, walked.word, walked.read, walked.vector], replies);
     }
 }
 

@@ -4,8 +4,10 @@ use super::by_hand;
 use super::house::House;
 use super::rng::Rng;
 use super::stored::Stored;
+use crate::bench::Reader;
 use crate::refusal::Reply;
 use crate::tables::{check_table, grade, grade_word, step};
+use crate::vectors::vector_at;
 use crate::MOST_STATES;
 
 /// What is done to a table of a random chart.
@@ -63,7 +65,7 @@ pub const DAMAGED: [TableFault; 11] = [
     TableFault::LettersAbove,
 ];
 
-/// One step and one grade from a state, and the grade of a word.
+/// A state, for one step, its grade and the vector behind it, and a word, for its grade.
 #[derive(Clone, Debug, Default)]
 pub struct Walk {
     pub state: usize,
@@ -87,6 +89,10 @@ pub struct Walked {
     pub step: Reply,
     pub grade: Reply,
     pub word: Reply,
+    /// The word read letter by letter: a refused letter leaves the reader's state as it was.
+    pub read: Reply,
+    /// The table's bytes taken for vectors of m bytes.
+    pub vector: Reply,
 }
 
 impl TableCase {
@@ -100,7 +106,18 @@ impl TableCase {
             step: step(rows, *count, *m, walk.state, walk.letter).into(),
             grade: grade(rows, *count, *m, walk.state).into(),
             word: grade_word(rows, *count, *m, &walk.word).into(),
+            read: self.read(&walk.word),
+            vector: Reply {
+                number: 0,
+                values: vector_at(rows, *m, *count, walk.state).iter().map(|&byte| usize::from(byte)).collect(),
+            },
         }
+    }
+
+    fn read(&self, word: &[u8]) -> Reply {
+        let mut reader = Reader::new(&self.table.rows, self.table.count, self.table.m);
+        word.iter().for_each(|&letter| drop(reader.step(usize::from(letter))));
+        reader.grade().into()
     }
 
     /// The table and its walks, and what each call answers.
@@ -117,8 +134,8 @@ impl TableCase {
         stored.number(walk.state);
         stored.number(walk.letter);
         stored.part(&walk.word);
-        let Walked { step, grade, word } = self.walk(walk);
-        [step, grade, word].iter().for_each(|reply| stored.reply(reply));
+        let Walked { step, grade, word, read, vector } = self.walk(walk);
+        [step, grade, word, read, vector].iter().for_each(|reply| stored.reply(reply));
     }
 }
 

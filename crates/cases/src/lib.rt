@@ -55,6 +55,15 @@ pub fn print_value(value: usize) {
     io::print_decimal(STDOUT_FILENO, value as u64);
 }
 
+// Values, one for each byte.
+pub fn print_bytes(bytes: &[u8]) {
+    let mut i = 0;
+    while i < bytes.len() {
+        print_value(wide(bytes[i]));
+        i += 1;
+    }
+}
+
 // No refusal: the number 0. Its values and the line's end come after.
 pub fn print_success() {
     io::print_decimal(STDOUT_FILENO, 0);
