@@ -60,22 +60,23 @@ module _ (c : List ℕ) (ok : Sound c) where
       ap (λ t. join c t (joins c m (λ j. f n j))) (joins-swap n m f (λ i j l r. h i j (omega arith) r))
       ∙ sym (joins-join m (λ j. joins c n (λ i. f i j)) (λ j. f n j) (λ j r. joins-low n (λ i. f i j) (λ i l. h i j (omega arith) r)) (λ j r. h n j (omega arith) r))
 
-  -- product over a big join, on either side
+  -- what keeps 0 and joins keeps a big join
+  kept-joins : (g : ℕ → ℕ) → g 0 ≡ 0 → ((a b : ℕ) → a < kOf c → b < kOf c → g (join c a b) ≡ join c (g a) (g b)) → (n : ℕ) (f : ℕ → ℕ) →
+      ((i : ℕ) → i < n → f i < kOf c) → g (joins c n f) ≡ joins c n (λ i. g (f i))
+  unfolding joins
+  kept-joins g none each zero f h = none
+  kept-joins g none each (suc n) f h =
+      each (joins c n f) (f n) (joins-low n f (λ i l. h i (omega arith))) (h n (omega arith))
+      ∙ ap (λ t. join c t (g (f n))) (kept-joins g none each n f (λ i l. h i (omega arith)))
+
+  -- as a product does, on either side
   pub prod-joins-left : (a n : ℕ) (f : ℕ → ℕ) → a < kOf c → ((i : ℕ) → i < n → f i < kOf c) →
       prod c a (joins c n f) ≡ joins c n (λ i. prod c a (f i))
-  unfolding joins
-  prod-joins-left a zero f ha h = ok .zero-right a ha
-  prod-joins-left a (suc n) f ha h =
-      ok .dist-left a (joins c n f) (f n) ha (joins-low n f (λ i l. h i (omega arith))) (h n (omega arith))
-      ∙ ap (λ t. join c t (prod c a (f n))) (prod-joins-left a n f ha (λ i l. h i (omega arith)))
+  prod-joins-left a n f ha = kept-joins (prod c a) (ok .zero-right a ha) (λ x y hx hy. ok .dist-left a x y ha hx hy) n f
 
   pub prod-joins-right : (a n : ℕ) (f : ℕ → ℕ) → a < kOf c → ((i : ℕ) → i < n → f i < kOf c) →
       prod c (joins c n f) a ≡ joins c n (λ i. prod c (f i) a)
-  unfolding joins
-  prod-joins-right a zero f ha h = ok .zero-left a ha
-  prod-joins-right a (suc n) f ha h =
-      ok .dist-right a (joins c n f) (f n) ha (joins-low n f (λ i l. h i (omega arith))) (h n (omega arith))
-      ∙ ap (λ t. join c t (prod c (f n) a)) (prod-joins-right a n f ha (λ i l. h i (omega arith)))
+  prod-joins-right a n f ha = kept-joins (λ x. prod c x a) (ok .zero-left a ha) (λ x y hx hy. ok .dist-right a x y ha hx hy) n f
 
 -- ---- order
 

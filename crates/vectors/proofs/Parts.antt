@@ -9,7 +9,7 @@ use lib.ListN.{getD, take, drop, length-take, length-drop}
 use lib.Seq.{getD-take, getD-drop}
 use Rattle.replies.specs.declared.Shape.{Shape}
 use Rattle.paper.specs.Chart.{headSize, nOf, letters, startFrom, endFrom, matrixFrom, gradeFrom, entry, startVec, endVec}
-use Rattle.paper.specs.Vectors.{combine, combineTerm, colEntry, colTerm, endGrade, startGrade}
+use Rattle.paper.specs.Vectors.{joins, combine, combineTerm, colEntry, colTerm, endGrade, startGrade}
 use Rattle.lists.proofs.ByPlace.{getD-tabulate}
 use Rattle.algebra.proofs.Joins.{joins-cong}
 use Rattle.cells.specs.Shaped.{Shaped, Read}
@@ -55,45 +55,28 @@ module _ {c : List ℕ} {s : Shape} (h : Shaped c s) where
 
   -- ---- combined with them
 
+  -- a big join of the same terms
+  same-terms : (f g : ℕ → ℕ) {r : ℕ} → ((p : ℕ) → p < nOf c → f p ≡ g p) → Read (joins c (nOf c) f) (s .k) r → Read (joins c (nOf c) g) (s .k) r
+  same-terms f g same r = record { is = r .is ∙ joins-cong c (nOf c) f g same; low = r .low }
+
   pub end-part : (v w : List ℕ) {r : ℕ} → PartOf c (s .k) (s .n) (s .end) w → Read (combine c v w) (s .k) r → Read (endGrade c v) (s .k) r
   unfolding endGrade combine combineTerm endVec
-  end-part v w e r =
-      record {
-        is =
-            r .is
-            ∙ joins-cong c (nOf c) (combineTerm c v w) (combineTerm c v (endVec c))
-            (λ p l.
-            rw
-            (e .is p (rw (h .n-is) l), h .end-is, getD-tabulate (nOf c) (gradeFrom c (endFrom c)) 0 p l));
-        low = r .low;
-      }
+  end-part v w e =
+      same-terms (combineTerm c v w) (combineTerm c v (endVec c))
+      (λ p l. rw (e .is p (rw (h .n-is) l), h .end-is, getD-tabulate (nOf c) (gradeFrom c (endFrom c)) 0 p l))
 
   pub start-part : (v w : List ℕ) {r : ℕ} → PartOf c (s .k) (s .n) (s .start) v → Read (combine c v w) (s .k) r → Read (startGrade c w) (s .k) r
   unfolding startGrade combine combineTerm startVec
-  start-part v w e r =
-      record {
-        is =
-            r .is
-            ∙ joins-cong c (nOf c) (combineTerm c v w) (combineTerm c (startVec c) w)
-            (λ p l.
-            rw
-            (e .is p (rw (h .n-is) l), h .start-is, getD-tabulate (nOf c) (gradeFrom c (startFrom c)) 0 p l));
-        low = r .low;
-      }
+  start-part v w e =
+      same-terms (combineTerm c v w) (combineTerm c (startVec c) w)
+      (λ p l. rw (e .is p (rw (h .n-is) l), h .start-is, getD-tabulate (nOf c) (gradeFrom c (startFrom c)) 0 p l))
 
   pub row-part : (x p : ℕ) (v w : List ℕ) {r : ℕ} → PartOf c (s .k) (s .n) (s .matrix + (x * s .n + p) * s .n) v → Read (combine c v w) (s .k) r →
       Read (colEntry c x w p) (s .k) r
   unfolding colEntry colTerm combine combineTerm entry gradeFrom
-  row-part x p v w e r =
-      record {
-        is =
-            r .is
-            ∙ joins-cong c (nOf c) (combineTerm c v w) (colTerm c x w p)
-            (λ q l.
-            rw
-            (e .is q (rw (h .n-is) l), h .matrix-is, h .n-is, add-assoc (matrixFrom c) ((x * nOf c + p) * nOf c) q));
-        low = r .low;
-      }
+  row-part x p v w e =
+      same-terms (combineTerm c v w) (colTerm c x w p)
+      (λ q l. rw (e .is q (rw (h .n-is) l), h .matrix-is, h .n-is, add-assoc (matrixFrom c) ((x * nOf c + p) * nOf c) q))
 
   -- the numbers on the way to row p of letter x's matrix are small
   pub row-small : (x p : ℕ) → x < s .letters → p < s .n → (x * s .n ≤ 384) × (x * s .n + p ≤ 384) × ((x * s .n + p) * s .n ≤ 9216)
