@@ -14,7 +14,7 @@ ghost use lib.ListN.{length};
 ghost use Rattle.replies.specs.Replies.{builtSaid};
 ghost use Rattle.paper.specs.Builders.{blank, blankTable};
 ghost use Rattle.pages.specs.Texts.{chartMost};
-ghost use Rattle.pages.specs.Programs.{programRoom, program, nerodeMakes, reducedMakes, brzMakes};
+ghost use Rattle.pages.specs.Programs.{programRoom, program};
 ghost use Rattle.io.specs.Counts.{Counts};
 ghost use Rattle.shown.specs.Answered.{Answered, answerMost};
 ghost use Rattle.answers.specs.Answers.{makes};
@@ -62,8 +62,8 @@ fn answer_chart(which: Program, chart: &[u8], out: &mut [u8]) -> usize
     finish(chart, &table, built, out)
 }
 
-// What it prints for an input.
-fn answer(which: Program, text: &[u8], out: &mut [u8]) -> usize
+// What it prints for an input. Answers how many bytes that is.
+pub fn answer(which: Program, text: &[u8], out: &mut [u8]) -> usize
     requires { ⌜ answerMost ≤ length (now out) ⌝ }
     ensures { λ r. ⌜ Answered (program (makes which) (now (text .entry))) (now (out .entry)) (now (out .exit)) r ⌝ }
     ensures { λ r. ⌜ Counts r (now (out .exit)) ⌝ }
@@ -74,31 +74,4 @@ fn answer(which: Program, text: &[u8], out: &mut [u8]) -> usize
         Written::Refused(why) => refuse(why, out),
         Written::Bytes(_) => answer_chart(which, &chart, out),
     }
-}
-
-// What the program `nerode` prints for an input. Answers how many bytes that is.
-pub fn nerode(text: &[u8], out: &mut [u8]) -> usize
-    requires { ⌜ answerMost ≤ length (now out) ⌝ }
-    ensures { λ r. ⌜ Answered (program nerodeMakes (now (text .entry))) (now (out .entry)) (now (out .exit)) r ⌝ }
-    ensures { λ r. ⌜ Counts r (now (out .exit)) ⌝ }
-{
-    answer(Program::Nerode, text, out)
-}
-
-// What the program `reduced` prints for an input. Answers how many bytes that is.
-pub fn reduced(text: &[u8], out: &mut [u8]) -> usize
-    requires { ⌜ answerMost ≤ length (now out) ⌝ }
-    ensures { λ r. ⌜ Answered (program reducedMakes (now (text .entry))) (now (out .entry)) (now (out .exit)) r ⌝ }
-    ensures { λ r. ⌜ Counts r (now (out .exit)) ⌝ }
-{
-    answer(Program::Reduced, text, out)
-}
-
-// What the program `brz` prints for an input. Answers how many bytes that is.
-pub fn brz(text: &[u8], out: &mut [u8]) -> usize
-    requires { ⌜ answerMost ≤ length (now out) ⌝ }
-    ensures { λ r. ⌜ Answered (program brzMakes (now (text .entry))) (now (out .entry)) (now (out .exit)) r ⌝ }
-    ensures { λ r. ⌜ Counts r (now (out .exit)) ⌝ }
-{
-    answer(Program::Brz, text, out)
 }

@@ -3,10 +3,7 @@ use crate::Program;
 use libc::STDIN_FILENO;
 use libc::STDOUT_FILENO;
 ghost use mathlib.Core.Path.{_≡_};
-ghost use Prim.Native.Nat.{_≤_};
 ghost use lib.ListN.{length};
-ghost use Rattle.io.specs.Counts.{Counts};
-ghost use Rattle.shown.specs.Answered.{answerMost};
 
 // For standard input. One byte more than the longest chart's text: longer input is refused from there.
 fn text_buffer() -> [u8; 22494]
@@ -22,22 +19,10 @@ fn answer_buffer() -> [u8; 9366]
     [0; 9366]
 }
 
-// What a program prints for a chart's text, by the call that is promised for it.
-fn answer(which: Program, text: &[u8], out: &mut [u8]) -> usize
-    requires { ⌜ answerMost ≤ length (now out) ⌝ }
-    ensures { λ r. ⌜ Counts r (now (out .exit)) ⌝ }
-{
-    match which {
-        Program::Nerode => crate::nerode(text, out),
-        Program::Reduced => crate::reduced(text, out),
-        Program::Brz => crate::brz(text, out),
-    }
-}
-
-// Writes that to standard output.
+// Writes what a program prints for a chart's text to standard output.
 pub fn write_answer(which: Program, text: &[u8]) {
     let mut out = answer_buffer();
-    let size = answer(which, text, &mut out);
+    let size = crate::answer(which, text, &mut out);
     io::write_all(STDOUT_FILENO, &out[..size]);
 }
 

@@ -9,16 +9,16 @@ use Rattle.bench.specs.Bench.{answerTo, gradeAnswer, taken}
 use Rattle.bench.specs.declared.reader.Reader.{Reader}
 
 -- `Reader::new`, of the rows, the count and the number of letters that some reader has
-pub one-new : (of a b : Reader) → (a .rows ≡ of .rows) × (a .count ≡ of .count) × (a .m ≡ of .m) × (a .state ≡ 0) →
+pub one-reader-new : (of a b : Reader) → (a .rows ≡ of .rows) × (a .count ≡ of .count) × (a .m ≡ of .m) × (a .state ≡ 0) →
     (b .rows ≡ of .rows) × (b .count ≡ of .count) × (b .m ≡ of .m) × (b .state ≡ 0) → a ≡ b
-one-new of a b p q i =
+one-reader-new of a b p q i =
     record { rows = (p .0 ∙ sym (q .0)) i; count = (p .1 ∙ sym (q .1)) i; m = (p .2 ∙ sym (q .2)) i; state = (p .3 ∙ sym (q .3)) i }
 
 -- `Reader::step`
-pub one-step : (r : Reader) (letter : ℕ) (a b : Stepped × Reader) → (steppedSaid (a .0) ≡ answerTo r letter) × (a .1 ≡ taken r letter) →
+pub one-reader-step : (r : Reader) (letter : ℕ) (a b : Stepped × Reader) → (steppedSaid (a .0) ≡ answerTo r letter) × (a .1 ≡ taken r letter) →
     (steppedSaid (b .0) ≡ answerTo r letter) × (b .1 ≡ taken r letter) → a ≡ b
-one-step r letter a b p q i = (stepped-one (a .0) (b .0) (p .0 ∙ sym (q .0)) i, (p .1 ∙ sym (q .1)) i)
+one-reader-step r letter a b p q i = (stepped-one (a .0) (b .0) (p .0 ∙ sym (q .0)) i, (p .1 ∙ sym (q .1)) i)
 
 -- `Reader::grade`
-pub one-grade : (r : Reader) (a b : Graded) → gradedSaid a ≡ gradeAnswer r → gradedSaid b ≡ gradeAnswer r → a ≡ b
-one-grade r a b p q = graded-one a b (p ∙ sym q)
+pub one-reader-grade : (r : Reader) (a b : Graded) → gradedSaid a ≡ gradeAnswer r → gradedSaid b ≡ gradeAnswer r → a ≡ b
+one-reader-grade r a b p q = graded-one a b (p ∙ sym q)

@@ -23,7 +23,7 @@ use Rattle.promises.proofs.Backward.{brzozowski-faithful, brzozowski-smallest}
 use Rattle.promises.proofs.FirstWords.{reached-low}
 use Rattle.promises.proofs.OneTable.{one-table}
 use Rattle.promises.proofs.Together.{own-sheet-accepted}
-use Rattle.wrong.specs.Wrong.{Builds, OfBuilt, OneFixedTable, WritesNothing, rowAt, CopiesFirstRow, NoneOfFive, forwardBuilds, ForwardShutsOut, ForwardContract, MergesOnce, backwardBuilds, BackwardShutsOut, BackwardContract, SoundNotAll, CompleteNotNone}
+use Rattle.wrong.specs.Wrong.{Builds, OfBuilt, OneFixedTable, WritesNothing, rowAt, CopiesFirstRow, NoneOfFive, forwardCall, ForwardShutsOut, ForwardContract, MergesOnce, backwardCall, BackwardShutsOut, BackwardContract, SoundNotAll, CompleteNotNone}
 
 -- ---- builders
 
@@ -101,28 +101,28 @@ module _ (p : Builds) (built-e : built p chartE) (built-o : built p chart2)
 -- a program that demand 2 holds of builds where the call does, and counts as it does
 module _ (by : List ℕ → Construction) (alike : List ℕ → List ℕ → List ℕ → Type 0) (b p : Builder) (b-builds : ForwardBuilds b by)
     (b-faithful : ForwardFaithful b by alike) (p-builds : ForwardBuilds p by) (p-faithful : ForwardFaithful p by alike) (c : List ℕ)
-    (at : built (forwardBuilds b) c)
+    (at : built (forwardCall b) c)
   where
-    built-too : built (forwardBuilds p) c
+    built-too : built (forwardCall p) c
     built-too = p-builds c 6 (blank 30) (blankVectors 6) .1 (b-builds c 6 (blank 30) (blankVectors 6) .0 at)
 
     faithful-too : Faithful c (by c) (gradeOf c) (alike c) (ofForward c (p c 6 (blank 30) (blankVectors 6)))
     faithful-too = p-faithful c 6 (blank 30) (blankVectors 6) built-too
 
-    counted-too : count (forwardBuilds p) c ≡ count (forwardBuilds b) c
+    counted-too : count (forwardCall p) c ≡ count (forwardCall b) c
     counted-too = one-table c (by c) (gradeOf c) (alike c) _ _ faithful-too (b-faithful c 6 (blank 30) (blankVectors 6) at) .0
 
 -- so where the call's own counts for E and for the example differ, it is none of the five
 module _ (by : List ℕ → Construction) (alike : List ℕ → List ℕ → List ℕ → Type 0) (b : Builder) (b-builds : ForwardBuilds b by)
-    (b-faithful : ForwardFaithful b by alike) (at-e : built (forwardBuilds b) chartE) (at-o : built (forwardBuilds b) chart2)
-    (other : count (forwardBuilds b) chartE ≡ count (forwardBuilds b) chart2 → ⊥)
+    (b-faithful : ForwardFaithful b by alike) (at-e : built (forwardCall b) chartE) (at-o : built (forwardCall b) chart2)
+    (other : count (forwardCall b) chartE ≡ count (forwardCall b) chart2 → ⊥)
   where
     shuts-out : ForwardShutsOut by alike
     shuts-out p p-builds p-faithful =
         let e = faithful-too by alike b p b-builds b-faithful p-builds p-faithful chartE at-e in
         let o = faithful-too by alike b p b-builds b-faithful p-builds p-faithful chart2 at-o in
         none-of-five
-        (forwardBuilds p)
+        (forwardCall p)
         (built-too by alike b p b-builds b-faithful p-builds p-faithful chartE at-e)
         (built-too by alike b p b-builds b-faithful p-builds p-faithful chart2 at-o)
         (e .grades)
@@ -193,29 +193,29 @@ lent = record { table = blank 30; reverseTable = blankTable 8; reverseVectors = 
 
 -- a program whose tables are faithful and smallest counts at least the call's states for E, and at most those for the example
 module _ (p : BackwardBuilder) (builds : BackwardBuilds p) (faithful : OnceBuilt p RowsFaithful) (smallest : OnceBuilt p Smallest) where
-  module _ (c : List ℕ) (at : built (backwardBuilds brzozowski) c) where
-    rows-built : built (backwardBuilds p) c
+  module _ (c : List ℕ) (at : built (backwardCall brzozowski) c) where
+    rows-built : built (backwardCall p) c
     rows-built = builds c 6 8 lent .1 (brzozowski-builds c 6 8 lent .0 at)
 
     rows-faithful : RowsFaithful c 8 (p c 6 8 lent)
     rows-faithful = faithful c 6 8 lent rows-built
 
-    fewer : count (backwardBuilds brzozowski) c ≤ count (backwardBuilds p) c
+    fewer : count (backwardCall brzozowski) c ≤ count (backwardCall p) c
     unfolding tableFitsChart
     fewer = brzozowski-smallest c 6 8 lent at _ _ (kOf c) (both-split _ _ (rows-faithful .fits) .1) (rows-faithful .grades)
 
-    more : count (backwardBuilds p) c ≤ count (backwardBuilds brzozowski) c
+    more : count (backwardCall p) c ≤ count (backwardCall brzozowski) c
     unfolding tableFitsChart
     more =
         let f = brzozowski-faithful c 6 8 lent at in
         smallest c 6 8 lent rows-built _ _ (kOf c) (both-split _ _ (f .fits) .1) (f .grades)
 
-  rows-none-of-five : built (backwardBuilds brzozowski) chartE → built (backwardBuilds brzozowski) chart2 →
-      count (backwardBuilds brzozowski) chart2 < count (backwardBuilds brzozowski) chartE → NoneOfFive (backwardBuilds p)
+  rows-none-of-five : built (backwardCall brzozowski) chartE → built (backwardCall brzozowski) chart2 →
+      count (backwardCall brzozowski) chart2 < count (backwardCall brzozowski) chartE → NoneOfFive (backwardCall p)
   rows-none-of-five at-e at-o less =
       let e = rows-faithful chartE at-e in
       none-of-five
-      (backwardBuilds p)
+      (backwardCall p)
       (rows-built chartE at-e)
       (rows-built chart2 at-o)
       (e .grades)

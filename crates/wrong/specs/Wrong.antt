@@ -20,11 +20,11 @@ abbrev pub Builds : Type 0
 Builds = List ℕ → ℕ → List ℕ → Reply × List ℕ
 
 -- a program in a call's place; the rest of what it is lent is zeros and large enough
-abbrev pub forwardBuilds : Builder → Builds
-forwardBuilds p c room table = let o = p c room table (blankVectors room) in (o .reply, o .table)
+abbrev pub forwardCall : Builder → Builds
+forwardCall p c room table = let o = p c room table (blankVectors room) in (o .reply, o .table)
 
-abbrev pub backwardBuilds : BackwardBuilder → Builds
-backwardBuilds p c room table =
+abbrev pub backwardCall : BackwardBuilder → Builds
+backwardCall p c room table =
     let
     o =
     p
@@ -75,21 +75,21 @@ pub record NoneOfFive (p : Builds) : Type 0 where
 
 -- demand 2 shuts out all five: no program that it holds of is one of them
 abbrev pub ForwardShutsOut : (List ℕ → Construction) → (List ℕ → List ℕ → List ℕ → Type 0) → Type 0
-ForwardShutsOut by alike = (p : Builder) → ForwardBuilds p by → ForwardFaithful p by alike → NoneOfFive (forwardBuilds p)
+ForwardShutsOut by alike = (p : Builder) → ForwardBuilds p by → ForwardFaithful p by alike → NoneOfFive (forwardCall p)
 
 abbrev pub BackwardShutsOut : Type 0
-BackwardShutsOut = (p : BackwardBuilder) → BackwardBuilds p → OnceBuilt p RowsFaithful → OnceBuilt p Smallest → NoneOfFive (backwardBuilds p)
+BackwardShutsOut = (p : BackwardBuilder) → BackwardBuilds p → OnceBuilt p RowsFaithful → OnceBuilt p Smallest → NoneOfFive (backwardCall p)
 
 -- so does each call's contract: no program that answers and leaves what the call's definition says is one of them
 abbrev pub ForwardContract : Builder → Type 0
 ForwardContract call =
     (p : Builder) → ((c : List ℕ) (room : ℕ) (table vectors : List ℕ) → p c room table vectors ≡ call c room table vectors) →
-    NoneOfFive (forwardBuilds p)
+    NoneOfFive (forwardCall p)
 
 abbrev pub BackwardContract : BackwardBuilder → Type 0
 BackwardContract call =
     (p : BackwardBuilder) → ((c : List ℕ) (room reverseRoom : ℕ) (l : Lent) → p c room reverseRoom l ≡ call c room reverseRoom l) →
-    NoneOfFive (backwardBuilds p)
+    NoneOfFive (backwardCall p)
 
 -- a table merged again by the numbers of its states has no two states with one grade and the same next states
 abbrev pub MergesAgain : Fact
@@ -99,7 +99,7 @@ MergesAgain c room count table left =
 
 -- that is not the reduced table
 abbrev pub MergesOnce : Type 0
-MergesOnce = (p : Builder) → ForwardBuilds p reducedBy → ForwardFaithful p reducedBy SameAfterLetters → ¬ OfBuilt (forwardBuilds p) MergesAgain
+MergesOnce = (p : Builder) → ForwardBuilds p reducedBy → ForwardFaithful p reducedBy SameAfterLetters → ¬ OfBuilt (forwardCall p) MergesAgain
 
 -- ---- sheet checks
 
