@@ -3,8 +3,8 @@
 set -eu
 cd "$(dirname "$0")/.."
 out=target/c
+bench/library.sh lace_c liblace.a
 mkdir -p "$out"
-rt staticlib lace >"$out/staticlib.log" 2>&1 || { tail -n 20 "$out/staticlib.log" >&2; exit 1; }
 gcc -std=c11 -O2 -Wall -Wextra -Werror -I include bench/walk.c target/staticlib/liblace.a -o "$out/walk"
 if command -v python3 >/dev/null 2>&1; then
     python3 bench/expect.py | cmp - bench/cases.txt || { echo "bench/cases.txt is not what bench/expect.py writes" >&2; exit 1; }

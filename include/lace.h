@@ -1,4 +1,4 @@
-/* lace for the bench: one step and one grade of a table. Link target/staticlib/liblace.a, which `rt staticlib lace` writes.
+/* lace for the bench: one step and one grade of a table. Link target/staticlib/liblace.a, which `bench/library.sh lace_c liblace.a` writes.
  *
  * A table is its rows as bytes, a state count and the number m of its letters. A row stands for a state and is 1 + 2 * m bytes long: the state's
  * grade, then for each letter the next state in two bytes, high first. Bytes after the last row are not read, and nothing is ever written.

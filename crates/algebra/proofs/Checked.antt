@@ -13,7 +13,7 @@ use Rattle.paper.specs.Reply.{Reply, fine}
 use Rattle.paper.specs.Chart.{head_size, k_of, e_of, n_of, m_of, letters, join_from, prod_from, start_from, end_from, matrix_from, chart_size, join, prod, grade_from, entry}
 use Rattle.algebra.specs.Sizes.{Sizes}
 use Rattle.paper.specs.Check.{sizes_fit, head_fits, grade_fits, grades_fit, laws, law_at, law_at_two, law_at_one, law_holds, broken_law, broken_at, shape_of, check_reply, chart_fits}
-use Rattle.lists.proofs.Tests.{not_both, both_left, both_right, both_split, unless-told, unless-passed, all-at, least-all}
+use Rattle.lists.proofs.Tests.{not_both, both_left, both_right, both_split, unless_told, unless_passed, all_at, least_all}
 
 -- ---- the stages of the check
 
@@ -34,36 +34,36 @@ module _ (c : List ℕ) where
   unfolding check_reply
   ranged number no1 no2 no3 e =
       let is : Reply → Type 0 = λ r. r.0 ≡ number in
-      let long = unless-passed is (leb head_size (length c)) _ _ no2 e in
-      let heads = unless-passed is (head_fits c) _ _ no1 long.1 in
-      let size = unless-passed is (leb (chart_size c) (length c)) _ _ no2 heads.1 in
-      let grades = unless-passed is (grades_fit c) _ _ no3 size.1 in
+      let long = unless_passed is (leb head_size (length c)) _ _ no2 e in
+      let heads = unless_passed is (head_fits c) _ _ no1 long.1 in
+      let size = unless_passed is (leb (chart_size c) (length c)) _ _ no2 heads.1 in
+      let grades = unless_passed is (grades_fit c) _ _ no3 size.1 in
       record { long = long.0; heads = heads.0; size = size.0; grades = grades.0 }
 
-  pub ranged-reply : Ranged c → check_reply c ≡ law_reply c
+  pub ranged_reply : Ranged c → check_reply c ≡ law_reply c
   unfolding check_reply
-  ranged-reply r = rw (r.long, r.heads, r.size, r.grades)
+  ranged_reply r = rw (r.long, r.heads, r.size, r.grades)
 
   -- a chart that is not refused
-  pub fits-number : chart_fits c ≡ true → (check_reply c).0 ≡ 0
+  pub fits_number : chart_fits c ≡ true → (check_reply c).0 ≡ 0
   unfolding chart_fits
-  fits-number e = eqb-true (check_reply c).0 0 e
+  fits_number e = eqb-true (check_reply c).0 0 e
 
   pub number_fits : (check_reply c).0 ≡ 0 → chart_fits c ≡ true
   unfolding chart_fits
   number_fits e = eq-eqb (check_reply c).0 0 e
 
-  pub fits-ranged : chart_fits c ≡ true → Ranged c
-  fits-ranged e = ranged 0 (omega arith) (omega arith) (omega arith) (fits-number e)
+  pub fits_ranged : chart_fits c ≡ true → Ranged c
+  fits_ranged e = ranged 0 (omega arith) (omega arith) (omega arith) (fits_number e)
 
-  pub fits-lawful : chart_fits c ≡ true → eqb (broken_law c) 8 ≡ true
-  fits-lawful e =
-      (unless-passed (λ (r : Reply). r.0 ≡ 0) (eqb (broken_law c) 8) (4, broken_at c (broken_law c)) (fine (shape_of c)) (omega arith)
-      (rw (ranged-reply (fits-ranged e)) at (fits-number e))).0
+  pub fits_lawful : chart_fits c ≡ true → eqb (broken_law c) 8 ≡ true
+  fits_lawful e =
+      (unless_passed (λ (r : Reply). r.0 ≡ 0) (eqb (broken_law c) 8) (4, broken_at c (broken_law c)) (fine (shape_of c)) (omega arith)
+      (rw (ranged_reply (fits_ranged e)) at (fits_number e))).0
 
   -- an answer of a call that checks the chart first, where nothing is refused
-  pub check-passed : (rest : Reply) → (unless (chart_fits c) (check_reply c) rest).0 ≡ 0 → (chart_fits c ≡ true) × (rest.0 ≡ 0)
-  check-passed rest e = unless-told (λ (r : Reply). r.0 ≡ 0) (chart_fits c) (check_reply c) rest (λ q n. not_both (number_fits n) q) e
+  pub check_passed : (rest : Reply) → (unless (chart_fits c) (check_reply c) rest).0 ≡ 0 → (chart_fits c ≡ true) × (rest.0 ≡ 0)
+  check_passed rest e = unless_told (λ (r : Reply). r.0 ≡ 0) (chart_fits c) (check_reply c) rest (λ q n. not_both (number_fits n) q) e
 
 -- ---- sizes
 
@@ -92,48 +92,48 @@ sizes k e n m fit =
 -- ---- ranges: from the stages before the laws
 
 module _ (c : List ℕ) (r : Ranged c) where
-  pub head-sizes : Sizes (k_of c) (e_of c) (n_of c) (m_of c)
+  pub head_sizes : Sizes (k_of c) (e_of c) (n_of c) (m_of c)
   unfolding head_fits
-  head-sizes = sizes (k_of c) (e_of c) (n_of c) (m_of c) r.heads
+  head_sizes = sizes (k_of c) (e_of c) (n_of c) (m_of c) r.heads
 
-  pub letters-bound : (1 ≤ letters c) × (letters c ≤ 16)
+  pub letters_bound : (1 ≤ letters c) × (letters c ≤ 16)
   unfolding letters
-  letters-bound = (head-sizes.m_low, head-sizes.m_high)
+  letters_bound = (head_sizes.m_low, head_sizes.m_high)
 
   -- every byte behind the head is a grade
-  pub grade-bound : (i : ℕ) → head_size ≤ i → i < chart_size c → get_or c i 0 < k_of c
+  pub grade_bound : (i : ℕ) → head_size ≤ i → i < chart_size c → get_or c i 0 < k_of c
   unfolding grades_fit grade_fits
-  grade-bound i l h =
+  grade_bound i l h =
       let p : head_size + (i - head_size) ≡ i = omega arith in
       subst (λ (j : ℕ). get_or c j 0 < k_of c) p
-      (ltb-true (get_or c (head_size + (i - head_size)) 0) (k_of c) (all-at (grade_fits c) (chart_size c - head_size) r.grades (i - head_size) (omega arith)))
+      (ltb-true (get_or c (head_size + (i - head_size)) 0) (k_of c) (all_at (grade_fits c) (chart_size c - head_size) r.grades (i - head_size) (omega arith)))
 
-  pub join-bound : (a b : ℕ) → a < k_of c → b < k_of c → join c a b < k_of c
+  pub join_bound : (a b : ℕ) → a < k_of c → b < k_of c → join c a b < k_of c
   unfolding join
-  join-bound a b p q = grade-bound (join_from c + (a * k_of c + b)) (omega arith) (omega (arith, digits_lt p q))
+  join_bound a b p q = grade_bound (join_from c + (a * k_of c + b)) (omega arith) (omega (arith, digits_lt p q))
 
-  pub prod-bound : (a b : ℕ) → a < k_of c → b < k_of c → prod c a b < k_of c
+  pub prod_bound : (a b : ℕ) → a < k_of c → b < k_of c → prod c a b < k_of c
   unfolding prod
-  prod-bound a b p q = grade-bound (prod_from c + (a * k_of c + b)) (omega arith) (omega (arith, digits_lt p q))
+  prod_bound a b p q = grade_bound (prod_from c + (a * k_of c + b)) (omega arith) (omega (arith, digits_lt p q))
 
-  pub start-bound : (p : ℕ) → p < n_of c → grade_from c (start_from c) p < k_of c
+  pub start_bound : (p : ℕ) → p < n_of c → grade_from c (start_from c) p < k_of c
   unfolding grade_from
-  start-bound p h = grade-bound (start_from c + p) (omega arith) (omega arith)
+  start_bound p h = grade_bound (start_from c + p) (omega arith) (omega arith)
 
-  pub end-bound : (p : ℕ) → p < n_of c → grade_from c (end_from c) p < k_of c
+  pub end_bound : (p : ℕ) → p < n_of c → grade_from c (end_from c) p < k_of c
   unfolding grade_from
-  end-bound p h = grade-bound (end_from c + p) (omega arith) (omega arith)
+  end_bound p h = grade_bound (end_from c + p) (omega arith) (omega arith)
 
-  pub entry-bound : (x p q : ℕ) → x < letters c → p < n_of c → q < n_of c → entry c x p q < k_of c
+  pub entry_bound : (x p q : ℕ) → x < letters c → p < n_of c → q < n_of c → entry c x p q < k_of c
   unfolding entry letters
-  entry-bound x p q hx hp hq = grade-bound (matrix_from c + ((x * n_of c + p) * n_of c + q)) (omega arith) (omega (arith, digits_lt (digits_lt hx hp) hq))
+  entry_bound x p q hx hp hq = grade_bound (matrix_from c + ((x * n_of c + p) * n_of c + q)) (omega arith) (omega (arith, digits_lt (digits_lt hx hp) hq))
 
 -- ---- laws
 
 -- a law that holds passes at any three grades
 pub law_at_lem : (c : List ℕ) (i : ℕ) → law_holds c i ≡ true → (a b d : ℕ) → a < k_of c → b < k_of c → d < k_of c → law_at c i a b d ≡ true
 unfolding law_holds law_at_one law_at_two
-law_at_lem c i e a b d ha hb hd = all-at (law_at c i a b) (k_of c) (all-at (law_at_two c i a) (k_of c) (all-at (law_at_one c i) (k_of c) e a ha) b hb) d hd
+law_at_lem c i e a b d ha hb hd = all_at (law_at c i a b) (k_of c) (all_at (law_at_two c i a) (k_of c) (all_at (law_at_one c i) (k_of c) e a ha) b hb) d hd
 
 -- ---- a chart that is not refused
 
@@ -170,16 +170,16 @@ pub sound : (c : List ℕ) → chart_fits c ≡ true → Sound c
 unfolding laws law_at broken_law
 sound c accepted =
     record {
-      sizes = head-sizes c r;
-      letters_low = (letters-bound c r).0;
-      letters_high = (letters-bound c r).1;
+      sizes = head_sizes c r;
+      letters_low = (letters_bound c r).0;
+      letters_high = (letters_bound c r).1;
       long = leb-true (chart_size c) (length c) r.size;
-      grade_low = grade-bound c r;
-      join_low = join-bound c r;
-      prod_low = prod-bound c r;
-      start_low = start-bound c r;
-      end_low = end-bound c r;
-      entry_low = entry-bound c r;
+      grade_low = grade_bound c r;
+      join_low = join_bound c r;
+      prod_low = prod_bound c r;
+      start_low = start_bound c r;
+      end_low = end_bound c r;
+      entry_low = entry_bound c r;
       idem = λ a p. eqb-true _ _ (law 0 a 0 0 (omega arith) p z z);
       comm = λ a b p q. eqb-true _ _ (law 1 a b 0 (omega arith) p q z);
       assoc = λ a b d p q r. eqb-true _ _ (law 2 a b d (omega arith) p q r);
@@ -194,13 +194,13 @@ sound c accepted =
     }
   where
     r : Ranged c
-    r = fits-ranged c accepted
+    r = fits_ranged c accepted
 
     z : 0 < k_of c
-    z = omega (arith, (head-sizes c r).k_low)
+    z = omega (arith, (head_sizes c r).k_low)
 
     law : (i a b d : ℕ) → i < 8 → a < k_of c → b < k_of c → d < k_of c → law_at c i a b d ≡ true
-    law i a b d h = law_at_lem c i (least-all (law_holds c) 8 (omega (arith, eqb-true (broken_law c) 8 (fits-lawful c accepted))) i h) a b d
+    law i a b d h = law_at_lem c i (least_all (law_holds c) 8 (omega (arith, eqb-true (broken_law c) 8 (fits_lawful c accepted))) i h) a b d
 
     -- the laws of two equations
     unit : (a : ℕ) → a < k_of c → (prod c (e_of c) a ≡ a) × (prod c a (e_of c) ≡ a)

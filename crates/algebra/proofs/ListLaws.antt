@@ -5,7 +5,7 @@ use Prim.Native.Nat.{ℕ, ◌<◌}
 use native.Mathlib.Decide.{dec_lt}
 use native.Mathlib.Omega.{arith}
 use Rattle.paper.specs.Lists.{all_below, least_fail}
-use Rattle.lists.proofs.Tests.{not_both, all-by, least, least-all}
+use Rattle.lists.proofs.Tests.{not_both, all_by, least, least_all}
 
 -- a test that does not pass everywhere below n fails first at the least failure
 pub record FirstFail (n : ℕ) (test : ℕ → Bool) (i : ℕ) : Type 0 where
@@ -18,4 +18,4 @@ first_fail n test e = go (dec_lt (least_fail n test) n)
   where
     go : Dec (least_fail n test < n) → FirstFail n test (least_fail n test)
     go (yes h) = record { low = h; fails = (least test n).fails h; before = (least test n).before }
-    go (no h) = absurd (not_both (all-by test n (least-all test n (omega arith))) e)
+    go (no h) = absurd (not_both (all_by test n (least_all test n (omega arith))) e)

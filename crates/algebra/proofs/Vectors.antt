@@ -6,10 +6,10 @@ use lib.ListN.{length, get_or}
 use Rattle.paper.specs.Words.{Word, after}
 use Rattle.paper.specs.Chart.{k_of, n_of, letters, start_from, end_from, grade_from, prod, entry, start_vec, end_vec}
 use Rattle.paper.specs.Vectors.{joins, row_term, row_entry, row_times, col_term, col_entry, times_col, combine_term, combine, vector_of, reverse_of, end_grade, grade_of}
-use Rattle.lists.proofs.ByPlace.{length-tabulate, get_d_tabulate}
-use Rattle.numbering.proofs.Words.{with, after-with, after-keeps}
+use Rattle.lists.proofs.ByPlace.{length_tabulate, get_or_tabulate}
+use Rattle.numbering.proofs.Words.{with, after_with, after_keeps}
 use Rattle.algebra.proofs.Checked.{Sound}
-use Rattle.algebra.proofs.Joins.{joins_cong, joins-low, joins-swap, prod-joins-left, prod-joins-right}
+use Rattle.algebra.proofs.Joins.{joins_cong, joins_low, joins_swap, prod_joins_left, prod_joins_right}
 
 -- every entry of a vector is a grade
 abbrev pub Grades : List ℕ → List ℕ → Type 0
@@ -18,82 +18,82 @@ Grades c v = (p : ℕ) → p < n_of c → get_or v p 0 < k_of c
 -- ---- lengths and entries
 
 module _ (c : List ℕ) where
-  pub length-row : (x : ℕ) (v : List ℕ) → length (row_times c x v) ≡ n_of c
+  pub length_row : (x : ℕ) (v : List ℕ) → length (row_times c x v) ≡ n_of c
   unfolding row_times
-  length-row x v = length-tabulate (n_of c) (row_entry c x v)
+  length_row x v = length_tabulate (n_of c) (row_entry c x v)
 
-  pub length-col : (x : ℕ) (w : List ℕ) → length (times_col c x w) ≡ n_of c
+  pub length_col : (x : ℕ) (w : List ℕ) → length (times_col c x w) ≡ n_of c
   unfolding times_col
-  length-col x w = length-tabulate (n_of c) (col_entry c x w)
+  length_col x w = length_tabulate (n_of c) (col_entry c x w)
 
   pub length_start : length (start_vec c) ≡ n_of c
   unfolding start_vec
-  length_start = length-tabulate (n_of c) (grade_from c (start_from c))
+  length_start = length_tabulate (n_of c) (grade_from c (start_from c))
 
-  pub length-end : length (end_vec c) ≡ n_of c
+  pub length_end : length (end_vec c) ≡ n_of c
   unfolding end_vec
-  length-end = length-tabulate (n_of c) (grade_from c (end_from c))
+  length_end = length_tabulate (n_of c) (grade_from c (end_from c))
 
   pub row_at : (x : ℕ) (v : List ℕ) (q : ℕ) → q < n_of c → get_or (row_times c x v) q 0 ≡ row_entry c x v q
   unfolding row_times
-  row_at x v q h = get_d_tabulate (n_of c) (row_entry c x v) 0 q h
+  row_at x v q h = get_or_tabulate (n_of c) (row_entry c x v) 0 q h
 
-  pub col-at : (x : ℕ) (w : List ℕ) (p : ℕ) → p < n_of c → get_or (times_col c x w) p 0 ≡ col_entry c x w p
+  pub col_at : (x : ℕ) (w : List ℕ) (p : ℕ) → p < n_of c → get_or (times_col c x w) p 0 ≡ col_entry c x w p
   unfolding times_col
-  col-at x w p h = get_d_tabulate (n_of c) (col_entry c x w) 0 p h
+  col_at x w p h = get_or_tabulate (n_of c) (col_entry c x w) 0 p h
 
   -- whatever steps make vectors of n entries
-  length-after : (step : ℕ → List ℕ → List ℕ) → ((x : ℕ) (v : List ℕ) → length (step x v) ≡ n_of c) →
+  length_after : (step : ℕ → List ℕ → List ℕ) → ((x : ℕ) (v : List ℕ) → length (step x v) ≡ n_of c) →
       (u v : List ℕ) → length v ≡ n_of c → length (after step v u) ≡ n_of c
   unfolding after
-  length-after step e [] v h = h
-  length-after step e (x ∷ u) v h = length-after step e u (step x v) (e x v)
+  length_after step e [] v h = h
+  length_after step e (x ∷ u) v h = length_after step e u (step x v) (e x v)
 
-  pub length-vector : (u : List ℕ) → length (vector_of c u) ≡ n_of c
+  pub length_vector : (u : List ℕ) → length (vector_of c u) ≡ n_of c
   unfolding vector_of
-  length-vector u = length-after (row_times c) length-row u (start_vec c) length_start
+  length_vector u = length_after (row_times c) length_row u (start_vec c) length_start
 
   -- one letter more
-  pub vector-with : (u : List ℕ) (x : ℕ) → vector_of c (with x u) ≡ row_times c x (vector_of c u)
+  pub vector_with : (u : List ℕ) (x : ℕ) → vector_of c (with x u) ≡ row_times c x (vector_of c u)
   unfolding vector_of
-  vector-with u x = after-with (row_times c) (start_vec c) u x
+  vector_with u x = after_with (row_times c) (start_vec c) u x
 
 module _ (c : List ℕ) (ok : Sound c) where
   -- ---- entries are grades
 
-  pub start-grades : Grades c (start_vec c)
+  pub start_grades : Grades c (start_vec c)
   unfolding start_vec
-  start-grades p h = rw (get_d_tabulate (n_of c) (grade_from c (start_from c)) 0 p h) (ok.start_low p h)
+  start_grades p h = rw (get_or_tabulate (n_of c) (grade_from c (start_from c)) 0 p h) (ok.start_low p h)
 
-  pub end-grades : Grades c (end_vec c)
+  pub end_grades : Grades c (end_vec c)
   unfolding end_vec
-  end-grades p h = rw (get_d_tabulate (n_of c) (grade_from c (end_from c)) 0 p h) (ok.end_low p h)
+  end_grades p h = rw (get_or_tabulate (n_of c) (grade_from c (end_from c)) 0 p h) (ok.end_low p h)
 
-  pub row-grades : (x : ℕ) (v : List ℕ) → x < letters c → Grades c v → Grades c (row_times c x v)
+  pub row_grades : (x : ℕ) (v : List ℕ) → x < letters c → Grades c v → Grades c (row_times c x v)
   unfolding row_entry row_term
-  row-grades x v hx hv q hq =
-      rw (row_at c x v q hq) (joins-low c ok (n_of c) (row_term c x v q) (λ p hp. ok.prod_low (get_or v p 0) (entry c x p q) (hv p hp) (ok.entry_low x p q hx hp hq)))
+  row_grades x v hx hv q hq =
+      rw (row_at c x v q hq) (joins_low c ok (n_of c) (row_term c x v q) (λ p hp. ok.prod_low (get_or v p 0) (entry c x p q) (hv p hp) (ok.entry_low x p q hx hp hq)))
 
-  pub col-grades : (x : ℕ) (w : List ℕ) → x < letters c → Grades c w → Grades c (times_col c x w)
+  pub col_grades : (x : ℕ) (w : List ℕ) → x < letters c → Grades c w → Grades c (times_col c x w)
   unfolding col_entry col_term
-  col-grades x w hx hw p hp =
-      rw (col-at c x w p hp) (joins-low c ok (n_of c) (col_term c x w p) (λ q hq. ok.prod_low (entry c x p q) (get_or w q 0) (ok.entry_low x p q hx hp hq) (hw q hq)))
+  col_grades x w hx hw p hp =
+      rw (col_at c x w p hp) (joins_low c ok (n_of c) (col_term c x w p) (λ q hq. ok.prod_low (entry c x p q) (get_or w q 0) (ok.entry_low x p q hx hp hq) (hw q hq)))
 
-  pub vector-grades : (u : List ℕ) → Word (letters c) u → Grades c (vector_of c u)
+  pub vector_grades : (u : List ℕ) → Word (letters c) u → Grades c (vector_of c u)
   unfolding vector_of
-  vector-grades u h = after-keeps (row_times c) (Grades c) (letters c) (λ x h v. row-grades x v h) (start_vec c) start-grades u h
+  vector_grades u h = after_keeps (row_times c) (Grades c) (letters c) (λ x h v. row_grades x v h) (start_vec c) start_grades u h
 
-  pub reverse-grades : (u : List ℕ) → Word (letters c) u → Grades c (reverse_of c u)
+  pub reverse_grades : (u : List ℕ) → Word (letters c) u → Grades c (reverse_of c u)
   unfolding reverse_of
-  reverse-grades u h = after-keeps (times_col c) (Grades c) (letters c) (λ x h w. col-grades x w h) (end_vec c) end-grades u h
+  reverse_grades u h = after_keeps (times_col c) (Grades c) (letters c) (λ x h w. col_grades x w h) (end_vec c) end_grades u h
 
-  pub combine-low : (v w : List ℕ) → Grades c v → Grades c w → combine c v w < k_of c
+  pub combine_low : (v w : List ℕ) → Grades c v → Grades c w → combine c v w < k_of c
   unfolding combine combine_term
-  combine-low v w hv hw = joins-low c ok (n_of c) (combine_term c v w) (λ p h. ok.prod_low (get_or v p 0) (get_or w p 0) (hv p h) (hw p h))
+  combine_low v w hv hw = joins_low c ok (n_of c) (combine_term c v w) (λ p h. ok.prod_low (get_or v p 0) (get_or w p 0) (hv p h) (hw p h))
 
   pub grade_low : (u : List ℕ) → Word (letters c) u → grade_of c u < k_of c
   unfolding grade_of end_grade
-  grade_low u h = combine-low (vector_of c u) (end_vec c) (vector-grades u h) end-grades
+  grade_low u h = combine_low (vector_of c u) (end_vec c) (vector_grades u h) end_grades
 
   -- ---- a letter's matrix goes over from the row to the column
 
@@ -103,15 +103,15 @@ module _ (c : List ℕ) (ok : Sound c) where
   adjoint x v f hx hv hf =
       joins_cong c n (combine_term c (row_times c x v) f) (λ q. joins c n (λ p. prod c (prod c (a p) (e p q)) (w q)))
       (λ q hq. ap (λ t. prod c t (w q)) (row_at c x v q hq)
-      ∙ prod-joins-right c ok (w q) n (λ p. prod c (a p) (e p q)) (hf q hq) (λ p hp. ok.prod_low (a p) (e p q) (hv p hp) (he p q hp hq)))
-      ∙ joins-swap c ok n n (λ q p. prod c (prod c (a p) (e p q)) (w q))
+      ∙ prod_joins_right c ok (w q) n (λ p. prod c (a p) (e p q)) (hf q hq) (λ p hp. ok.prod_low (a p) (e p q) (hv p hp) (he p q hp hq)))
+      ∙ joins_swap c ok n n (λ q p. prod c (prod c (a p) (e p q)) (w q))
       (λ q p hq hp. ok.prod_low (prod c (a p) (e p q)) (w q) (ok.prod_low (a p) (e p q) (hv p hp) (he p q hp hq)) (hf q hq))
       ∙ joins_cong c n (λ p. joins c n (λ q. prod c (prod c (a p) (e p q)) (w q))) (combine_term c v (times_col c x f))
       (λ p hp.
       joins_cong c n (λ q. prod c (prod c (a p) (e p q)) (w q)) (λ q. prod c (a p) (prod c (e p q) (w q)))
       (λ q hq. ok.prod_assoc (a p) (e p q) (w q) (hv p hp) (he p q hp hq) (hf q hq))
-      ∙ sym (prod-joins-left c ok (a p) n (λ q. prod c (e p q) (w q)) (hv p hp) (λ q hq. ok.prod_low (e p q) (w q) (he p q hp hq) (hf q hq)))
-      ∙ ap (prod c (a p)) (sym (col-at c x f p hp)))
+      ∙ sym (prod_joins_left c ok (a p) n (λ q. prod c (e p q) (w q)) (hv p hp) (λ q hq. ok.prod_low (e p q) (w q) (he p q hp hq) (hf q hq)))
+      ∙ ap (prod c (a p)) (sym (col_at c x f p hp)))
     where
       n : ℕ
       n = n_of c

@@ -1,1 +1,2 @@
 // The algebra of checked charts: it is in proofs/.
+#![tactic(auto)]

@@ -1,11 +1,5 @@
 -- The programs read one byte more than the longest text: what is cut off of a longer input changes nothing that they print. Assumes nothing.
-use mathlib.Core.Path.{◌≡◌, sym, ap, ◌∙◌}
-use mathlib.Core.Logic.{◌⊎◌, inl, inr}
-use mathlib.Core.List.{List}
-use Prim.Native.Nat.{ℕ, suc, ◌≤◌, ◌<◌}
-use native.Mathlib.Omega.{arith}
-use lib.ListN.{length, take}
-use lib.Seq.{length-take-le, take_all}
+use Rattle.std.proofs.Common.{◌≡◌, List, ℕ, suc, ◌≤◌, ◌<◌, sym, ap, ◌∙◌, ◌⊎◌, inl, inr, arith, length, take, length-take-le, take_all}
 use borrow.Author.Tests.{lt-leb}
 use Rattle.pages.specs.Texts.{bad_line, text_most, lines_of_text, read_chart}
 use Rattle.pages.specs.Programs.{read_text, program}

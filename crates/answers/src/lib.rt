@@ -1,4 +1,6 @@
 // What the three programs print, from a chart's text: a table's text, or one refusal line.
+#![tactic(auto)]
+
 pub mod print;
 
 ghost use Rattle.std.specs.Prelude.{◌≡◌, ◌≤◌, length};
@@ -6,7 +8,7 @@ ghost use Rattle.replies.specs.Replies.{built_said};
 ghost use Rattle.paper.specs.Builders.{blank, blank_table};
 ghost use Rattle.pages.specs.Texts.{chart_most};
 ghost use Rattle.pages.specs.Programs.{program_room, program};
-ghost use Rattle.io.specs.Counts.{IsPrefixLen};
+ghost use Rattle.std.specs.Counts.{IsPrefixLen};
 ghost use Rattle.shown.specs.Answered.{Answered, answer_most};
 ghost use Rattle.answers.specs.Answers.{makes};
 ghost use Rattle.made.specs.Made.{Made};
@@ -16,7 +18,7 @@ use replies::{Built, Written};
 use shown::{finish, refuse};
 
 // The three programs.
-#[derive(Drop)]
+#[derive(Clone, Copy)]
 pub enum Program {
     Nerode,
     Reduced,

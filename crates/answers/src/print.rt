@@ -2,7 +2,8 @@
 ghost use Rattle.std.specs.Prelude.{◌≡◌, length};
 
 use crate::Program;
-use libc::{STDIN_FILENO, STDOUT_FILENO};
+use input::read_full;
+use std::io::{self, Read};
 
 // For standard input. One byte more than the longest chart's text: longer input is refused from there.
 fn text_buffer() -> [u8; 22494]
@@ -19,15 +20,15 @@ fn answer_buffer() -> [u8; 9366]
 }
 
 // Writes what a program prints for a chart's text to standard output.
-pub fn write_answer(which: Program, text: &[u8]) {
+pub fn write_answer(rt: &impl Print, which: Program, text: &[u8]) -> io::Result<()> {
     let mut out = answer_buffer();
     let size = crate::answer(which, text, &mut out);
-    io::write_all(STDOUT_FILENO, &out[..size]);
+    rt.write_all(&out[..size])
 }
 
-// A whole program: the chart's text is standard input.
-pub fn run(which: Program) {
+// A whole program, on an input that is the chart's text.
+pub fn run<R: Read>(rt: &impl Print, input: &mut R, which: Program) -> io::Result<()> {
     let mut text = text_buffer();
-    let got = io::read_full(STDIN_FILENO, &mut text);
-    write_answer(which, &text[..got]);
+    let got = read_full(input, &mut text)?;
+    write_answer(rt, which, &text[..got])
 }

@@ -5,7 +5,6 @@ use mathlib.Core.List.{List, []}
 use Prim.Native.Nat.{ℕ}
 use lib.ListN.{length}
 use Rattle.paper.specs.Lists.{both}
-use Rattle.paper.specs.Chart.{letters}
 use Rattle.paper.specs.Check.{chart_fits, check_reply}
 use Rattle.paper.specs.Reply.{Reply}
 use Rattle.replies.specs.Replies.{said, checked_said}
@@ -19,14 +18,14 @@ use Rattle.row_build.specs.Lent.{lent}
 
 module _ (c : List ℕ) (room reverse : ℕ) (l : Lent) where
   -- the rooms do not fit
-  pub both-room : chart_fits c ≡ true → backward_room c room reverse l ≡ false → record { reply = (5, []); left = l } ≡ brzozowski c room reverse l
+  pub both_room : chart_fits c ≡ true → backward_room c room reverse l ≡ false → record { reply = (5, []); left = l } ≡ brzozowski c room reverse l
   unfolding brzozowski
-  both-room f e = simp (f, e)
+  both_room f e = simp (f, e)
 
   -- a refused chart
-  pub both-refused : {r : Checked} {why : Refusal} → checked_said r ≡ check_reply c → r ≡ Checked.Refused why → record { reply = said why; left = l } ≡ brzozowski c room reverse l
+  pub both_refused : {r : Checked} {why : Refusal} → checked_said r ≡ check_reply c → r ≡ Checked.Refused why → record { reply = said why; left = l } ≡ brzozowski c room reverse l
   unfolding brzozowski
-  both-refused e q = rw (fits_refused c e q) (ap (λ (x : Reply). record { reply = x; left = l }) (ap checked_said (sym q) ∙ e))
+  both_refused e q = rw (fits_refused c e q) (ap (λ (x : Reply). record { reply = x; left = l }) (ap checked_said (sym q) ∙ e))
 
 -- the rooms as the code tests them
 pub rooms_read : {c : List ℕ} {s : Shape} (room reverse : ℕ) (table rt rv rows : List ℕ) {b : Bool} → Shaped c s →

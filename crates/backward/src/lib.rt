@@ -1,4 +1,6 @@
 // The Brzozowski table of a chart: the reverse table first, then the rows over it.
+#![tactic(auto)]
+
 ghost use Rattle.std.specs.Prelude.{◌≡◌, true, ◌≤◌};
 ghost use Rattle.replies.specs.Replies.{both_said};
 ghost use Rattle.paper.specs.Builders.{brzozowski, state_most, reverse_most, room_fits};

@@ -10,10 +10,10 @@ use Rattle.replies.specs.contracts.Refusal as R
 use Rattle.replies.proofs.Said.{said_refuses}
 
 module _ (s : ℕ) (answer : Stepped) where
-  pub state-given : (next : ℕ) → answer ≡ Stepped.Next next → next ≡ state_after s (stepped_said answer)
+  pub state_given : (next : ℕ) → answer ≡ Stepped.Next next → next ≡ state_after s (stepped_said answer)
   unfolding state_after
-  state-given next e = rw e
+  state_given next e = rw e
 
-  pub state-refused : (why : Refusal) → answer ≡ Stepped.Refused why → s ≡ state_after s (stepped_said answer)
+  pub state_refused : (why : Refusal) → answer ≡ Stepped.Refused why → s ≡ state_after s (stepped_said answer)
   unfolding state_after
-  state-refused why e = rw (e, said_refuses why)
+  state_refused why e = rw (e, said_refuses why)

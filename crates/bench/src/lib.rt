@@ -1,2 +1,4 @@
 // The bench: a reader that walks a lent table letter by letter.
+#![tactic(auto)]
+
 pub mod reader;

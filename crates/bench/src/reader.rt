@@ -7,7 +7,7 @@ ghost use Rattle.bench.specs.Bench.{answer_to, grade_answer, taken};
 use replies::{Graded, Stepped};
 
 // A table by its rows, state count and number of letters, and a state. The rows may be anything: each method answers for them.
-#[derive(Drop)]
+#[derive(Clone, Copy)]
 pub struct Reader<'a> {
     pub rows: &'a [u8],
     pub count: usize,
@@ -46,7 +46,7 @@ impl<'a> Reader<'a> {
 }
 
 // What a letter does: the state that it leaves, and what it is answered.
-#[derive(Drop)]
+#[derive(Clone, Copy)]
 struct Read {
     state: usize,
     answer: Stepped,

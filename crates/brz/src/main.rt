@@ -1,6 +1,9 @@
 // Reads a chart on standard input and prints its Brzozowski table, or one refusal line.
-use answers::Program;
+#![tactic(auto)]
 
-fn main() {
-    answers::print::run(Program::Brz);
+use answers::Program;
+use std::io;
+
+fn main(rt: HostRuntime) -> io::Result<()> {
+    answers::print::run(&rt, &mut rt.stdin(), Program::Brz)
 }

@@ -17,23 +17,23 @@ use Rattle.paper.specs.Chart.{k_of, letters, join}
 use Rattle.paper.specs.Check.{check_reply}
 use Rattle.paper.specs.Vectors.{joins}
 use Rattle.paper.specs.Tables.{grade_at, next_fits, size_fits, row_fits, table_fits, table_fits_chart, cap_of, cap_reply}
-use Rattle.lists.proofs.Tests.{both_left, both_right, all-at}
+use Rattle.lists.proofs.Tests.{both_left, both_right, all_at}
 use Rattle.cells.specs.Shaped.{Shaped, Read}
-use Rattle.chart.proofs.Checked.{fits-fine, fits_refused}
+use Rattle.chart.proofs.Checked.{fits_fine, fits_refused}
 use Rattle.rows.specs.RowIn.{RowIn}
 use Rattle.rows.proofs.Rows.{row_in}
-use Rattle.rows.proofs.TableTest.{table-parts}
+use Rattle.rows.proofs.TableTest.{table_parts}
 use Rattle.card.specs.Capped.{Beside}
 
 -- ---- when a table fits
 module _ {c : List ℕ} {s : Shape} (h : Shaped c s) (rows : List ℕ) (count m : ℕ) where
-  pub other-letters : (m ≡ s.letters → ⊥) → false ≡ table_fits_chart c rows count m
+  pub other_letters : (m ≡ s.letters → ⊥) → false ≡ table_fits_chart c rows count m
   unfolding table_fits_chart both
-  other-letters f = rw (ne_eqb m (letters c) (λ e. f (e ∙ sym h.letters_is)))
+  other_letters f = rw (ne_eqb m (letters c) (λ e. f (e ∙ sym h.letters_is)))
 
-  pub same-letters : m ≡ s.letters → (b : Bool) → b ≡ table_fits rows count m s.k → b ≡ table_fits_chart c rows count m
+  pub same_letters : m ≡ s.letters → (b : Bool) → b ≡ table_fits rows count m s.k → b ≡ table_fits_chart c rows count m
   unfolding table_fits_chart both
-  same-letters e b q = rw (eq-eqb m (letters c) (e ∙ h.letters_is), ← h.k_is) q
+  same_letters e b q = rw (eq-eqb m (letters c) (e ∙ h.letters_is), ← h.k_is) q
 
 -- ---- a table that fits
 module _ {c : List ℕ} {s : Shape} {rows : List ℕ} {count m : ℕ} (h : Beside c s rows count m) where
@@ -42,18 +42,18 @@ module _ {c : List ℕ} {s : Shape} {rows : List ℕ} {count m : ℕ} (h : Besid
   unfolding table_fits_chart
   fits = rw h.shaped.k_is (both_right (eqb m (letters c)) (table_fits rows count m (k_of c)) h.fits)
 
-  pub size-beside : size_fits rows count m ≡ true
-  size-beside = (table-parts rows count m s.k fits).0
+  pub size_beside : size_fits rows count m ≡ true
+  size_beside = (table_parts rows count m s.k fits).0
 
-  pub row-beside : {q : ℕ} → q < count → RowIn rows m q
-  row-beside {q} l = row_in rows count m q size-beside l
+  pub row_beside : {q : ℕ} → q < count → RowIn rows m q
+  row_beside {q} l = row_in rows count m q size_beside l
 
-  pub grade-beside : {q g : ℕ} → q < count → g ≡ grade_at rows m q → g < s.k
+  pub grade_beside : {q g : ℕ} → q < count → g ≡ grade_at rows m q → g < s.k
   unfolding row_fits
-  grade-beside {q} l e =
+  grade_beside {q} l e =
       rw e
       (ltb-true _ _
-      (both_left (ltb (grade_at rows m q) s.k) (all_below m (next_fits rows count m q)) (all-at (row_fits rows count m s.k) count (table-parts rows count m s.k fits).1 q l)))
+      (both_left (ltb (grade_at rows m q) s.k) (all_below m (next_fits rows count m q)) (all_at (row_fits rows count m s.k) count (table_parts rows count m s.k fits).1 q l)))
 
 -- the grades of q states are joined
 pub record Joined (c : List ℕ) (s : Shape) (rows : List ℕ) (count m q cap : ℕ) : Type 0 where
@@ -71,21 +71,21 @@ module _ {c : List ℕ} {s : Shape} {rows : List ℕ} {count m q cap : ℕ} (h :
   unfolding joins
   join_more l g r = record { beside = h.beside; low = omega arith; below = r.low; is = r.is ∙ rw (add-one, h.is, g) }
 
-  pub join-all : count ≤ q → cap ≡ cap_of c rows count m
+  pub join_all : count ≤ q → cap ≡ cap_of c rows count m
   unfolding cap_of
-  join-all l = let e : q ≡ count = omega (arith, h.low) in rw e at h.is
+  join_all l = let e : q ≡ count = omega (arith, h.low) in rw e at h.is
 
 -- ---- what is answered, from the chart check's answer
 module _ (c rows : List ℕ) (count m : ℕ) (a : Checked) (reply : checked_said a ≡ check_reply c) where
-  pub cap-refused : (why : Refusal) → a ≡ Checked.Refused why → said why ≡ cap_reply c rows count m
+  pub cap_refused : (why : Refusal) → a ≡ Checked.Refused why → said why ≡ cap_reply c rows count m
   unfolding cap_reply
-  cap-refused why e = rw (fits_refused c reply e, ← reply, e)
+  cap_refused why e = rw (fits_refused c reply e, ← reply, e)
 
   module _ (s : Shape) (e : a ≡ Checked.Fine s) where
-    pub cap-table : table_fits_chart c rows count m ≡ false → ◌≡◌ {A = Reply} (9, []) (cap_reply c rows count m)
+    pub cap_table : table_fits_chart c rows count m ≡ false → ◌≡◌ {A = Reply} (9, []) (cap_reply c rows count m)
     unfolding cap_reply
-    cap-table f = rw (fits-fine c reply e, f)
+    cap_table f = rw (fits_fine c reply e, f)
 
-    pub cap-is : table_fits_chart c rows count m ≡ true → (g : ℕ) → g ≡ cap_of c rows count m → ◌≡◌ {A = Reply} (0, g ∷ []) (cap_reply c rows count m)
+    pub cap_is : table_fits_chart c rows count m ≡ true → (g : ℕ) → g ≡ cap_of c rows count m → ◌≡◌ {A = Reply} (0, g ∷ []) (cap_reply c rows count m)
     unfolding cap_reply
-    cap-is f g q = rw (fits-fine c reply e, f, q)
+    cap_is f g q = rw (fits_fine c reply e, f, q)

@@ -1,4 +1,6 @@
 // The card of a shawl: the cap of a table beside its chart, the best grade that a row can earn.
+#![tactic(auto)]
+
 pub mod inner;
 
 ghost use Rattle.std.specs.Prelude.{◌≡◌};

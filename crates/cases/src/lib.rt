@@ -1,10 +1,13 @@
 // Stored cases on standard input: numbers of eight bytes, high first, and parts, each behind its length. Answers go to standard output, a
 // line each: document 01's number, then the values.
-ghost use Rattle.std.specs.Prelude.{◌≡◌, length};
-ghost use Rattle.io.specs.Counts.{IsPrefixLen};
+#![tactic(auto)]
 
-use libc::{STDIN_FILENO, STDOUT_FILENO};
+ghost use Rattle.std.specs.Prelude.{◌≡◌, IfOk, length};
+ghost use Rattle.std.specs.Counts.{IsPrefixLen};
+
+use input::read_full;
 use replies::{Refusal, Verdict};
+use std::io::{self, Read};
 
 fn wide(byte: u8) -> usize {
     byte as usize
@@ -18,88 +21,81 @@ pub fn buffer() -> [u8; 140000]
 }
 
 fn number_in(bytes: &[u8; 8]) -> usize {
-    let mut value = 0;
-    let mut i = 0;
-    while i < 8 {
-        value = value << 8 | wide(bytes[i]);
-        i += 1;
-    }
-    value
+    usize::from_be_bytes(*bytes)
 }
 
 // The next number, or 0 where the input has ended.
-pub fn number() -> usize {
+pub fn number<R: Read>(input: &mut R) -> io::Result<usize> {
     let mut bytes = [0u8; 8];
-    if io::read_full(STDIN_FILENO, &mut bytes) < 8 {
-        return 0;
+    if read_full(input, &mut bytes)? < 8 {
+        return Ok(0);
     }
-    number_in(&bytes)
+    Ok(number_in(&bytes))
 }
 
 // Reads the next part into the front of a buffer, which must hold it, and answers how many bytes it has.
-pub fn part(buffer: &mut [u8]) -> usize
-    ensures { IsPrefixLen result buffer.new }
+pub fn part<R: Read>(input: &mut R, buffer: &mut [u8]) -> io::Result<usize>
+    ensures prefix_len { IfOk result (λ size. IsPrefixLen size buffer.new) }
+    ensures kept_length { length buffer.new ≡ length buffer.old }
 {
-    let size = number();
+    let size = number(input)?;
     if buffer.len() < size {
-        return 0;
+        return Ok(0);
     }
-    io::read_full(STDIN_FILENO, &mut buffer[..size])
+    read_full(input, &mut buffer[..size])
 }
 
 // A value after another.
-pub fn print_value(value: usize) {
-    io::write_all(STDOUT_FILENO, b" ");
-    io::print_decimal(STDOUT_FILENO, value as u64);
+pub fn print_value(rt: &impl Print, value: usize) -> io::Result<()> {
+    print!(rt; " {value}")
 }
 
 // Values, one for each byte.
-pub fn print_bytes(bytes: &[u8]) {
-    let mut i = 0;
-    while i < bytes.len() {
-        print_value(wide(bytes[i]));
-        i += 1;
+pub fn print_bytes(rt: &impl Print, bytes: &[u8]) -> io::Result<()> {
+    for byte in bytes {
+        print_value(rt, wide(*byte))?;
     }
+    Ok(())
 }
 
 // No refusal: the number 0. Its values and the line's end come after.
-pub fn print_success() {
-    io::print_decimal(STDOUT_FILENO, 0);
+pub fn print_success(rt: &impl Print) -> io::Result<()> {
+    print!(rt; "0")
 }
 
-pub fn end_line() {
-    io::write_all(STDOUT_FILENO, b"\n");
+pub fn end_line(rt: &impl Print) -> io::Result<()> {
+    println!(rt;)
 }
 
-fn print_values(why: Refusal) {
+fn print_values(rt: &impl Print, why: Refusal) -> io::Result<()> {
     match why {
         Refusal::Law { law, a, b, c } => {
-            print_value(law);
-            print_value(a);
-            print_value(b);
-            print_value(c);
+            print_value(rt, law)?;
+            print_value(rt, a)?;
+            print_value(rt, b)?;
+            print_value(rt, c)
         }
-        Refusal::Letter { at } => print_value(at),
-        Refusal::Line { line } => print_value(line),
+        Refusal::Letter { at } => print_value(rt, at),
+        Refusal::Line { line } => print_value(rt, line),
         Refusal::Next { line, letter } => {
-            print_value(line);
-            print_value(letter);
+            print_value(rt, line)?;
+            print_value(rt, letter)
         }
-        Refusal::Text { line } => print_value(line),
-        _ => {}
+        Refusal::Text { line } => print_value(rt, line),
+        _ => Ok(()),
     }
 }
 
-pub fn print_refusal(why: Refusal) {
-    io::print_decimal(STDOUT_FILENO, replies::number(why) as u64);
-    print_values(why);
+pub fn print_refusal(rt: &impl Print, why: Refusal) -> io::Result<()> {
+    rt.print(replies::number(why))?;
+    print_values(rt, why)
 }
 
 // A whole line for a table check or a sheet check.
-pub fn print_verdict(verdict: Verdict) {
+pub fn print_verdict(rt: &impl Print, verdict: Verdict) -> io::Result<()> {
     match verdict {
-        Verdict::Accepted => print_success(),
-        Verdict::Refused(why) => print_refusal(why),
+        Verdict::Accepted => print_success(rt)?,
+        Verdict::Refused(why) => print_refusal(rt, why)?,
     }
-    end_line();
+    end_line(rt)
 }

@@ -26,15 +26,15 @@ record Lies (s : Shape) (from size : ℕ) : Type 0 where
   ends : from + size ≤ s.size
 
 module _ {c : List ℕ} {s : Shape} (h : Shaped c s) where
-  join-lies : Lies s s.join (s.k * s.k)
-  join-lies = record { behind = omega arith; ends = rw (h.join_is, h.size_is, h.k_is) (omega arith) }
+  join_lies : Lies s s.join (s.k * s.k)
+  join_lies = record { behind = omega arith; ends = rw (h.join_is, h.size_is, h.k_is) (omega arith) }
 
-  prod-lies : Lies s s.prod (s.k * s.k)
-  prod-lies = record { behind = omega arith; ends = rw (h.prod_is, h.size_is, h.k_is) (omega arith) }
+  prod_lies : Lies s s.prod (s.k * s.k)
+  prod_lies = record { behind = omega arith; ends = rw (h.prod_is, h.size_is, h.k_is) (omega arith) }
 
-  matrix-lies : Lies s s.matrix (s.letters * s.n * s.n)
+  matrix_lies : Lies s s.matrix (s.letters * s.n * s.n)
   unfolding letters
-  matrix-lies = record { behind = omega arith; ends = rw (h.matrix_is, h.size_is, h.letters_is, h.n_is) (omega arith) }
+  matrix_lies = record { behind = omega arith; ends = rw (h.matrix_is, h.size_is, h.letters_is, h.n_is) (omega arith) }
 
   -- each place of such a part
   stands : {from size at value : ℕ} → Lies s from size → at < size → get_or c (from + at) 0 ≡ value → Stands c s.k (from + at) value
@@ -43,16 +43,16 @@ module _ {c : List ℕ} {s : Shape} (h : Shaped c s) where
 
   pub join_stands : {a b : ℕ} → a < s.k → b < s.k → Stands c s.k (s.join + (a * s.k + b)) (join c a b)
   unfolding join
-  join_stands p q = stands join-lies (digits_lt p q) (rw (h.join_is, h.k_is))
+  join_stands p q = stands join_lies (digits_lt p q) (rw (h.join_is, h.k_is))
 
-  pub prod-stands : {a b : ℕ} → a < s.k → b < s.k → Stands c s.k (s.prod + (a * s.k + b)) (prod c a b)
+  pub prod_stands : {a b : ℕ} → a < s.k → b < s.k → Stands c s.k (s.prod + (a * s.k + b)) (prod c a b)
   unfolding prod
-  prod-stands p q = stands prod-lies (digits_lt p q) (rw (h.prod_is, h.k_is))
+  prod_stands p q = stands prod_lies (digits_lt p q) (rw (h.prod_is, h.k_is))
 
-  pub entry-stands : {x p q : ℕ} → x < s.letters → p < s.n → q < s.n → Stands c s.k (s.matrix + ((x * s.n + p) * s.n + q)) (entry c x p q)
+  pub entry_stands : {x p q : ℕ} → x < s.letters → p < s.n → q < s.n → Stands c s.k (s.matrix + ((x * s.n + p) * s.n + q)) (entry c x p q)
   unfolding entry
-  entry-stands x p q = stands matrix-lies (digits_lt (digits_lt x p) q) (rw (h.matrix_is, h.n_is))
+  entry_stands x p q = stands matrix_lies (digits_lt (digits_lt x p) q) (rw (h.matrix_is, h.n_is))
 
   -- the number of a matrix row is small
   pub row_low : {x p : ℕ} → x < s.letters → p < s.n → x * s.n + p < length c
-  row_low {x} {p} hx hp = omega (arith, matrix-lies.ends, digits_lt hx hp, le-mul_of_pos_right (s.letters * s.n) h.sizes.n_low)
+  row_low {x} {p} hx hp = omega (arith, matrix_lies.ends, digits_lt hx hp, le-mul_of_pos_right (s.letters * s.n) h.sizes.n_low)

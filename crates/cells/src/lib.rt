@@ -1,4 +1,6 @@
 // Inner: readers of a chart that was checked. Each has a `requires`, so only proved code may call them.
+#![tactic(auto)]
+
 ghost use Rattle.std.specs.Prelude.{◌≡◌, ◌+◌, ◌*◌, ◌<◌, length, get_or};
 ghost use Rattle.paper.specs.Chart.{join, prod, entry};
 ghost use Rattle.cells.specs.Shaped.{Shaped, Read};

@@ -16,10 +16,9 @@ use Rattle.replies.specs.Replies.{shape_said, checked_said}
 use Rattle.paper.specs.Chart.{head_size, k_of, e_of, n_of, m_of, letters, chart_size}
 use Rattle.paper.specs.Check.{head_fits, grade_fits, grades_fit, broken_law, broken_at, shape_of, check_reply, chart_fits}
 use Rattle.replies.proofs.Said.{said_refuses}
-use Rattle.lists.proofs.Tests.{all-at, unless-passed}
+use Rattle.lists.proofs.Tests.{all_at, unless_passed}
 use Rattle.laws.specs.declared.Broken.{Broken}
 use Rattle.laws.specs.Laws.{FirstBroken}
-use Rattle.algebra.specs.Sizes.{Sizes}
 use Rattle.cells.specs.Shaped.{Shaped}
 use Rattle.chart.proofs.Ranges.{sizes_are}
 
@@ -63,11 +62,11 @@ pub reply_grade : {c : List ℕ} {s : Shape} → Laid c s → grades_fit c ≡ f
 reply_grade t f = rw (behind_length t, f)
 
 module _ {c : List ℕ} {s : Shape} (t : Graded c s) where
-  pub reply-law : {law a b d : ℕ} → FirstBroken c (Broken.At law a b d) → checked_said (Checked.Refused (Refusal.Law law a b d)) ≡ check_reply c
-  reply-law f = rw (behind_length t.laid, t.grades, ne_eqb (broken_law c) 8 (λ e. omega (arith, f.0)), f.1)
+  pub reply_law : {law a b d : ℕ} → FirstBroken c (Broken.At law a b d) → checked_said (Checked.Refused (Refusal.Law law a b d)) ≡ check_reply c
+  reply_law f = rw (behind_length t.laid, t.grades, ne_eqb (broken_law c) 8 (λ e. omega (arith, f.0)), f.1)
 
-  pub reply-fine : FirstBroken c Broken.Nowhere → checked_said (Checked.Fine s) ≡ check_reply c
-  reply-fine f = rw (behind_length t.laid, t.grades, eq-eqb (broken_law c) 8 f, t.laid.shape)
+  pub reply_fine : FirstBroken c Broken.Nowhere → checked_said (Checked.Fine s) ≡ check_reply c
+  reply_fine f = rw (behind_length t.laid, t.grades, eq-eqb (broken_law c) 8 f, t.laid.shape)
 
 -- ---- the shape
 
@@ -104,7 +103,7 @@ shaped_by {c} {s} t =
       fits = rw (field 10) t.laid.fits;
       graded = λ i behind below.
           let there : head_size + (i - head_size) ≡ i = omega arith in
-          let passed = all-at (grade_fits c) (chart_size c - head_size) t.grades (i - head_size) (omega (arith, field 10)) in
+          let passed = all_at (grade_fits c) (chart_size c - head_size) t.grades (i - head_size) (omega (arith, field 10)) in
           let low = ltb-true (get_or c (head_size + (i - head_size)) 0) (k_of c) passed in
           rw (field 0) (rw there at low);
     }
@@ -121,11 +120,11 @@ module _ (c : List ℕ) {r : Checked} (reply : checked_said r ≡ check_reply c)
   unfolding check_reply
   shaped {s} e =
       let Is : Reply → Type 0 = λ r. fine (shape_said s) ≡ r in
-      let long = unless-passed Is (leb head_size (length c)) _ _ (not_fine (omega arith)) (ap checked_said (sym e) ∙ reply) in
-      let heads = unless-passed Is (head_fits c) _ _ (not_fine (omega arith)) long.1 in
-      let fits = unless-passed Is (leb (chart_size c) (length c)) _ _ (not_fine (omega arith)) heads.1 in
-      let grades = unless-passed Is (grades_fit c) _ _ (not_fine (omega arith)) fits.1 in
-      let laws = unless-passed Is (eqb (broken_law c) 8) _ _ (not_fine (omega arith)) grades.1 in
+      let long = unless_passed Is (leb head_size (length c)) _ _ (not_fine (omega arith)) (ap checked_said (sym e) ∙ reply) in
+      let heads = unless_passed Is (head_fits c) _ _ (not_fine (omega arith)) long.1 in
+      let fits = unless_passed Is (leb (chart_size c) (length c)) _ _ (not_fine (omega arith)) heads.1 in
+      let grades = unless_passed Is (grades_fit c) _ _ (not_fine (omega arith)) fits.1 in
+      let laws = unless_passed Is (eqb (broken_law c) 8) _ _ (not_fine (omega arith)) grades.1 in
       shaped_by
       (record {
         laid =
@@ -138,9 +137,9 @@ module _ (c : List ℕ) {r : Checked} (reply : checked_said r ≡ check_reply c)
       })
 
   -- whether the chart is refused
-  pub fits-fine : {s : Shape} → r ≡ Checked.Fine s → chart_fits c ≡ true
+  pub fits_fine : {s : Shape} → r ≡ Checked.Fine s → chart_fits c ≡ true
   unfolding chart_fits
-  fits-fine e = ap (λ (r : Reply). eqb r.0 0) (sym reply ∙ ap checked_said e)
+  fits_fine e = ap (λ (r : Reply). eqb r.0 0) (sym reply ∙ ap checked_said e)
 
   pub fits_refused : {why : Refusal} → r ≡ Checked.Refused why → chart_fits c ≡ false
   unfolding chart_fits

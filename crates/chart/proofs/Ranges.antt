@@ -10,7 +10,7 @@ use borrow.Author.Tests.{leb-true, ltb-true, le-leb, lt-ltb, le-ltb}
 use Rattle.paper.specs.Lists.{all_below}
 use Rattle.paper.specs.Chart.{head_size, k_of, chart_size}
 use Rattle.paper.specs.Check.{sizes_fit, grade_fits, grades_fit}
-use Rattle.lists.proofs.Tests.{both_split, both_true, all-fails, all_more}
+use Rattle.lists.proofs.Tests.{both_split, both_true, all_fails, all_more}
 use Rattle.algebra.specs.Sizes.{Sizes}
 
 pub sizes_are : (k e n m : ℕ) → sizes_fit k e n m ≡ true → Sizes k e n m
@@ -70,15 +70,15 @@ small h =
 -- the bytes behind the head, read one after the other
 module _ (c : List ℕ) (i : ℕ) where
   module _ {k : ℕ} (ek : k ≡ k_of c) where
-    pub grades-fail : i < chart_size c - head_size → k ≤ get_or c (head_size + i) 0 → false ≡ grades_fit c
+    pub grades_fail : i < chart_size c - head_size → k ≤ get_or c (head_size + i) 0 → false ≡ grades_fit c
     unfolding grade_fits grades_fit
-    grades-fail low h =
-        sym (all-fails (grade_fits c) (chart_size c - head_size) i low (le-ltb (get_or c (head_size + i) 0) (k_of c) (omega arith)))
+    grades_fail low h =
+        sym (all_fails (grade_fits c) (chart_size c - head_size) i low (le-ltb (get_or c (head_size + i) 0) (k_of c) (omega arith)))
 
-    pub grades-more : all_below i (grade_fits c) ≡ true → get_or c (head_size + i) 0 < k → all_below (i + 1) (grade_fits c) ≡ true
+    pub grades_more : all_below i (grade_fits c) ≡ true → get_or c (head_size + i) 0 < k → all_below (i + 1) (grade_fits c) ≡ true
     unfolding grade_fits
-    grades-more e h = all_more (grade_fits c) i e (lt-ltb (get_or c (head_size + i) 0) (k_of c) (omega arith))
+    grades_more e h = all_more (grade_fits c) i e (lt-ltb (get_or c (head_size + i) 0) (k_of c) (omega arith))
 
-  pub grades-done : all_below i (grade_fits c) ≡ true → i ≡ chart_size c - head_size → true ≡ grades_fit c
+  pub grades_done : all_below i (grade_fits c) ≡ true → i ≡ chart_size c - head_size → true ≡ grades_fit c
   unfolding grades_fit
-  grades-done e done = rw (← done) (sym e)
+  grades_done e done = rw (← done) (sym e)

@@ -1,4 +1,6 @@
 // The chart check.
+#![tactic(auto)]
+
 ghost use Rattle.std.specs.Prelude.{◌≡◌};
 ghost use Rattle.paper.specs.Check.{check_reply};
 ghost use Rattle.replies.specs.Replies.{checked_said};

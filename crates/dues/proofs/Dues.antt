@@ -22,14 +22,14 @@ use Rattle.dues.specs.Dues.{Few, Ruled, Stepping, behind_line}
 
 -- ---- what each kind asks for
 module _ (s : Counts) (kind : ℕ) (r : Rule) (n : r.next ≡ kind + 1) where
-  pub rule-head : kind ≡ 1 → r.width ≡ head_size → r.lines ≡ 1 → Ruled s kind r
+  pub rule_head : kind ≡ 1 → r.width ≡ head_size → r.lines ≡ 1 → Ruled s kind r
   unfolding width_of lines_of
-  rule-head h w l = record { width_is = rw (h, w); lines_is = rw (h, l); next_is = n; small = omega arith }
+  rule_head h w l = record { width_is = rw (h, w); lines_is = rw (h, l); next_is = n; small = omega arith }
 
   module _ (few : Few s) where
-    pub rule-grades : 2 ≤ kind → kind ≤ 3 → r.width ≡ s.k → r.lines ≡ s.k → Ruled s kind r
+    pub rule_grades : 2 ≤ kind → kind ≤ 3 → r.width ≡ s.k → r.lines ≡ s.k → Ruled s kind r
     unfolding width_of lines_of
-    rule-grades a b w l =
+    rule_grades a b w l =
         record {
           width_is = w ∙ simp (lt-leb kind 1 a, le-leb kind 3 b);
           lines_is = l ∙ simp (lt-leb kind 1 a, le-leb kind 3 b);
@@ -42,9 +42,9 @@ module _ (s : Counts) (kind : ℕ) (r : Rule) (n : r.next ≡ kind + 1) where
       unfolding width_of
       wide = w ∙ simp (lt-leb kind 1 (omega arith), lt-leb kind 3 a)
 
-      pub rule-vector : kind ≤ 5 → r.lines ≡ 1 → Ruled s kind r
+      pub rule_vector : kind ≤ 5 → r.lines ≡ 1 → Ruled s kind r
       unfolding lines_of
-      rule-vector b l =
+      rule_vector b l =
           record {
             width_is = wide;
             lines_is = l ∙ simp (lt-leb kind 1 (omega arith), lt-leb kind 3 a, le-leb kind 5 b);
@@ -52,25 +52,25 @@ module _ (s : Counts) (kind : ℕ) (r : Rule) (n : r.next ≡ kind + 1) where
             small = omega arith;
           }
 
-      pub rule-matrix : kind ≡ 6 → r.lines ≡ s.m * s.n → Ruled s kind r
+      pub rule_matrix : kind ≡ 6 → r.lines ≡ s.m * s.n → Ruled s kind r
       unfolding lines_of
-      rule-matrix b l = record { width_is = wide; lines_is = l ∙ rw b; next_is = n; small = omega arith }
+      rule_matrix b l = record { width_is = wide; lines_is = l ∙ rw b; next_is = n; small = omega arith }
 
-      pub rule-none : kind ≡ 7 → r.lines ≡ 0 → Ruled s kind r
+      pub rule_none : kind ≡ 7 → r.lines ≡ 0 → Ruled s kind r
       unfolding lines_of
-      rule-none b l = record { width_is = wide; lines_is = l ∙ rw b; next_is = n; small = omega arith }
+      rule_none b l = record { width_is = wide; lines_is = l ∙ rw b; next_is = n; small = omega arith }
 
 -- ---- where a line leads
 module _ (s : Counts) (c : Cursor) (r : Rule) (p : Stepping c r s) where
-  pub behind-line : 1 < c.left → record { kind = c.kind; left = c.left - 1; line = c.line + 1; pos = c.pos + (7 + 2 * r.width); at = c.at + r.width } ≡ behind_line s c
+  pub behind_line_lem : 1 < c.left → record { kind = c.kind; left = c.left - 1; line = c.line + 1; pos = c.pos + (7 + 2 * r.width); at = c.at + r.width } ≡ behind_line s c
   unfolding behind_line
-  behind-line h =
+  behind_line_lem h =
       let q : c.pos + (7 + 2 * r.width) ≡ c.pos + line_length r.width = omega arith in
       rw (q, lt-ltb 1 c.left h, p.ruled.width_is)
 
-  pub behind-last : c.left ≤ 1 → (t : Rule) → Ruled s r.next t → record { kind = r.next; left = t.lines; line = c.line + 1; pos = c.pos + (7 + 2 * r.width); at = c.at + r.width } ≡ behind_line s c
+  pub behind_last : c.left ≤ 1 → (t : Rule) → Ruled s r.next t → record { kind = r.next; left = t.lines; line = c.line + 1; pos = c.pos + (7 + 2 * r.width); at = c.at + r.width } ≡ behind_line s c
   unfolding behind_line
-  behind-last h t e =
+  behind_last h t e =
       let q : c.pos + (7 + 2 * r.width) ≡ c.pos + line_length r.width = omega arith in
       rw (q, le-ltb 1 c.left h, p.ruled.width_is, e.lines_is, p.ruled.next_is)
 

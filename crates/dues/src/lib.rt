@@ -1,9 +1,11 @@
 // The frames due: what each kind asks for, and where reading stands behind a line.
+#![tactic(auto)]
+
 ghost use Rattle.std.specs.Prelude.{◌≡◌, ◌≤◌};
 ghost use Rattle.dues.specs.Dues.{Few, Ruled, Stepping, behind_line};
 
 // The sizes that decide how many lines a chart has, and how long they are.
-#[derive(Drop)]
+#[derive(Clone, Copy)]
 pub struct Counts {
     pub k: usize,
     pub n: usize,
@@ -11,7 +13,7 @@ pub struct Counts {
 }
 
 // What a kind of frame asks for: its payload's length, how many lines of it there are, and the kind due after them.
-#[derive(Drop)]
+#[derive(Clone, Copy)]
 pub struct Rule {
     pub width: usize,
     pub lines: usize,
@@ -20,7 +22,7 @@ pub struct Rule {
 
 // Where reading stands: the kind due and how many lines of it are left; the line, from 1, and where it begins in the text; where its
 // bytes go in the chart.
-#[derive(Drop)]
+#[derive(Clone, Copy)]
 pub struct Cursor {
     pub kind: usize,
     pub left: usize,

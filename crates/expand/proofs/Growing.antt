@@ -76,16 +76,16 @@ module _ {p : Plan} {c t : List ℕ} {i held : ℕ} {table vectors : List ℕ} {
       let m_low : row_size p.shape.letters ≤ 33 = omega (arith, a.ready.sized.shaped.letters_high) in
       mul-le-mul i-low m_low
 
-  pub copy-inside : i * p.stride + p.width ≤ length vectors
-  copy-inside = omega (arith, place_inside a.holds.valued i (omega (arith, a.below, a.roomy)), a.ready.sized.inside)
+  pub copy_inside : i * p.stride + p.width ≤ length vectors
+  copy_inside = omega (arith, place_inside a.holds.valued i (omega (arith, a.below, a.roomy)), a.ready.sized.inside)
 
   module _ (copy : List ℕ) (e : take p.width copy ≡ take p.width (drop (i * p.stride) vectors)) where
     pub copy_is : take p.width copy ≡ place_at p.stride p.width vectors i
     unfolding place_at
     copy_is = e
 
-    pub copy-asks : Asks p c t held (take p.width copy) vectors index
-    copy-asks = record { ready = a.ready; roomy = a.roomy; value = rw copy_is (a.holds.valued.values i a.below); holds = a.holds }
+    pub copy_asks : Asks p c t held (take p.width copy) vectors index
+    copy_asks = record { ready = a.ready; roomy = a.roomy; value = rw copy_is (a.holds.valued.values i a.below); holds = a.holds }
 
-    pub copy-long : length (take p.width copy) ≡ p.width
-    copy-long = copy-asks.value.long
+    pub copy_long : length (take p.width copy) ≡ p.width
+    copy_long = copy_asks.value.long

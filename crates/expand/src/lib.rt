@@ -1,4 +1,6 @@
 // One state expanded: its row written, and what is new among its next states kept.
+#![tactic(auto)]
+
 ghost use Rattle.std.specs.Prelude.{◌+◌, ◌*◌, ◌≤◌, length};
 ghost use Rattle.paper.specs.Lists.{in_front};
 ghost use Rattle.paper.specs.Tables.{row_size};

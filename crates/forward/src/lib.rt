@@ -1,4 +1,6 @@
 // The Nerode and the reduced Nerode table of a chart: the calls whose states are vectors.
+#![tactic(auto)]
+
 ghost use Rattle.std.specs.Prelude.{◌≡◌};
 ghost use Rattle.replies.specs.Replies.{built_said};
 ghost use Rattle.paper.specs.Builders.{nerode, reduced};

@@ -1,4 +1,6 @@
 // One frame a line: reading it and writing it.
+#![tactic(auto)]
+
 pub mod digits;
 
 ghost use Rattle.std.specs.Prelude.{◌≡◌, ◌+◌, ◌/◌, ◌%◌, ◌<◌, length, get_or, set};

@@ -12,14 +12,14 @@ use borrow.Author.Count.{below_more, below_none}
 use Rattle.replies.specs.declared.Shape.{Shape}
 use Rattle.paper.specs.Lists.{both, same_list}
 use Rattle.paper.specs.Sheets.{line_size, line_at, line_state, line_vector, other_pair, on_sheet}
-use Rattle.lists.proofs.Tests.{all-by, all-fails, both_split, both_true}
-use Rattle.lists.proofs.ByPlace.{same_true, same_false, same_by, get_d_part}
+use Rattle.lists.proofs.Tests.{all_by, all_fails, both_split, both_true}
+use Rattle.lists.proofs.ByPlace.{same_true, same_false, same_by, get_or_part}
 use Rattle.marks.specs.Marks.{mark_of}
 use Rattle.marks.specs.Chains.{bucket_of, Chained}
-use Rattle.marks.proofs.ChainLaws.{OnChain, NoneFrom, start-on, next-on, none-start, none-next}
+use Rattle.marks.proofs.ChainLaws.{OnChain, NoneFrom, start_on, next_on, none_start, none_next}
 use Rattle.lines.specs.Readable.{LinesIn, Indexed, pair_state, pair_vector}
 use Rattle.lines.proofs.Reading.{line_in}
-use Rattle.lines.proofs.PairBytes.{line-state, line-vector, line-pair}
+use Rattle.lines.proofs.PairBytes.{line_state_lem, line_vector_lem, line_pair}
 
 -- ---- filling
 
@@ -32,12 +32,12 @@ pub record Indexing (c sheet : List ℕ) (lines : ℕ) (heads links marks : List
   pub numbered : (j : ℕ) → j < i → get_or marks j 0 ≡ mark_of (line_at c sheet j)
 
 module _ (c sheet : List ℕ) (lines : ℕ) where
-  pub indexing-start : {heads links marks : List ℕ} → lines ≤ length links → lines ≤ length marks → Chained heads links marks 0 → Indexing c sheet lines heads links marks 0
-  indexing-start l m k = record { reached = omega arith; linked = l; marked = m; chained = k; numbered = below_none _ }
+  pub indexing_start : {heads links marks : List ℕ} → lines ≤ length links → lines ≤ length marks → Chained heads links marks 0 → Indexing c sheet lines heads links marks 0
+  indexing_start l m k = record { reached = omega arith; linked = l; marked = m; chained = k; numbered = below_none _ }
 
-  pub indexing-more : {heads links marks heads' links' marks' line : List ℕ} {i number : ℕ} → Indexing c sheet lines heads links marks i → i < lines → length links' ≡ length links →
+  pub indexing_more : {heads links marks heads' links' marks' line : List ℕ} {i number : ℕ} → Indexing c sheet lines heads links marks i → i < lines → length links' ≡ length links →
       line ≡ line_at c sheet i → number ≡ mark_of line → Chained heads' links' marks' (i + 1) × (marks' ≡ set marks i number) → Indexing c sheet lines heads' links' marks' (i + 1)
-  indexing-more {marks = marks} {i = i} {number} x b l el en k =
+  indexing_more {marks = marks} {i = i} {number} x b l el en k =
       record {
         reached = omega arith;
         linked = rw l x.linked;
@@ -48,8 +48,8 @@ module _ (c sheet : List ℕ) (lines : ℕ) where
             (get_or-set_same marks i number 0 (omega (arith, x.marked)) ∙ en ∙ ap mark_of el));
       }
 
-  pub indexing-end : {s : Shape} {heads links marks : List ℕ} {i : ℕ} → LinesIn c s sheet lines → Indexing c sheet lines heads links marks i → i ≡ lines → Indexed c s sheet lines heads links marks
-  indexing-end h x e = record { lines_in = h; chained = rw (← e) x.chained; numbered = λ j b. x.numbered j (omega arith) }
+  pub indexing_end : {s : Shape} {heads links marks : List ℕ} {i : ℕ} → LinesIn c s sheet lines → Indexing c sheet lines heads links marks i → i ≡ lines → Indexed c s sheet lines heads links marks
+  indexing_end h x e = record { lines_in = h; chained = rw (← e) x.chained; numbered = λ j b. x.numbered j (omega arith) }
 
 -- ---- looking a pair up
 
@@ -62,15 +62,15 @@ module _ {c : List ℕ} {s : Shape} {sheet : List ℕ} {lines : ℕ} {heads link
   same_number : (t : ℕ) → t < lines → line_at c sheet t ≡ pair → get_or marks t 0 ≡ number
   same_number t b q = h.numbered t b ∙ ap mark_of q ∙ sym n
 
-  pub looking-start : {p : ℕ} → p ≡ get_or heads (bucket_of number) 0 → Looking c sheet lines marks number pair p
-  looking-start e = record { on = start-on h.chained number e; past = none-start h.chained number _ same_number e }
+  pub looking_start : {p : ℕ} → p ≡ get_or heads (bucket_of number) 0 → Looking c sheet lines marks number pair p
+  looking_start e = record { on = start_on h.chained number e; past = none_start h.chained number _ same_number e }
 
-  pub looking-next : {p i q : ℕ} {t : Bool} → Looking c sheet lines marks number pair p → suc i ≡ p → t ≡ same_list (line_at c sheet i) pair → t ≡ false → q ≡ get_or links i 0 →
+  pub looking_next : {p i q : ℕ} {t : Bool} → Looking c sheet lines marks number pair p → suc i ≡ p → t ≡ same_list (line_at c sheet i) pair → t ≡ false → q ≡ get_or links i 0 →
       Looking c sheet lines marks number pair q
-  looking-next {i = i} k f r w e =
+  looking_next {i = i} k f r w e =
       record {
-        on = next-on h.chained number k.on f e;
-        past = none-next h.chained number _ same_number k.on f e k.past (λ _. same_false (line_at c sheet i) pair (sym r ∙ w));
+        on = next_on h.chained number k.on f e;
+        past = none_next h.chained number _ same_number k.on f e k.past (λ _. same_false (line_at c sheet i) pair (sym r ∙ w));
       }
 
 module _ {c : List ℕ} {s : Shape} {sheet : List ℕ} {lines : ℕ} (h : LinesIn c s sheet lines) (pair : List ℕ) where
@@ -78,13 +78,13 @@ module _ {c : List ℕ} {s : Shape} {sheet : List ℕ} {lines : ℕ} (h : LinesI
   unfolding on_sheet other_pair
   found i b r w =
       let e : line_at c sheet i ≡ pair = same_true (line_at c sheet i) pair (sym r ∙ w) in
-      let q = both_true _ _ (eq-eqb _ _ (line-state (line_in h b) pair e)) (same_by _ _ (line-vector (line_in h b) pair e)) in
-      rw (all-fails (other_pair c sheet (pair_state pair) (pair_vector pair)) lines i b (ap not q))
+      let q = both_true _ _ (eq-eqb _ _ (line_state_lem (line_in h b) pair e)) (same_by _ _ (line_vector_lem (line_in h b) pair e)) in
+      rw (all_fails (other_pair c sheet (pair_state pair) (pair_vector pair)) lines i b (ap not q))
 
   module _ (l : length pair ≡ 2 + s.n) (bytes : (j : ℕ) → get_or sheet j 0 < 256) (low : get_or pair 1 0 < 256) where
-    second-low : (t : ℕ) → get_or (line_at c sheet t) 1 0 < 256
+    second_low : (t : ℕ) → get_or (line_at c sheet t) 1 0 < 256
     unfolding line_at
-    second-low t = rw (get_d_part (line_size c) t sheet 0 1 (omega arith)) (bytes (t * line_size c + 1))
+    second_low t = rw (get_or_part (line_size c) t sheet 0 1 (omega arith)) (bytes (t * line_size c + 1))
 
     other : (t : ℕ) → t < lines → (line_at c sheet t ≡ pair → ⊥) → other_pair c sheet (pair_state pair) (pair_vector pair) t ≡ true
     unfolding other_pair
@@ -93,9 +93,9 @@ module _ {c : List ℕ} {s : Shape} {sheet : List ℕ} {lines : ℕ} (h : LinesI
         go : (a : Bool) → both (eqb (line_state c sheet t) (pair_state pair)) (same_list (line_vector c sheet t) (pair_vector pair)) ≡ a → not a ≡ true
         go true q =
             let e = both_split _ _ q in
-            absurd (f (line-pair (line_in h b) pair l (second-low t) low (eqb-true _ _ e.0) (same_true _ _ e.1)))
+            absurd (f (line_pair (line_in h b) pair l (second_low t) low (eqb-true _ _ e.0) (same_true _ _ e.1)))
         go false q = refl
 
     pub nowhere : NoneFrom (λ t. line_at c sheet t ≡ pair) 0 lines → false ≡ on_sheet c sheet lines (pair_state pair) (pair_vector pair)
     unfolding on_sheet
-    nowhere none = rw (all-by (other_pair c sheet (pair_state pair) (pair_vector pair)) lines (λ t b. other t b (none t (omega arith) b)))
+    nowhere none = rw (all_by (other_pair c sheet (pair_state pair) (pair_vector pair)) lines (λ t b. other t b (none t (omega arith) b)))

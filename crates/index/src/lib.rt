@@ -1,4 +1,6 @@
 // Inner: an index of the lines, and looking a pair up in it. Each has a `requires`, so only proved code may call them.
+#![tactic(auto)]
+
 ghost use Rattle.std.specs.Prelude.{◌≡◌, ◌+◌, ◌≤◌, ◌<◌, length, get_or};
 ghost use Rattle.paper.specs.Lists.{same_list};
 ghost use Rattle.paper.specs.Sheets.{line_at, on_sheet};

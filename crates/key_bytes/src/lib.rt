@@ -1,4 +1,6 @@
 // The key of a vector in the reduced table, written out. It has a `requires`, so only proved code may call it.
+#![tactic(auto)]
+
 ghost use Rattle.std.specs.Prelude.{◌≡◌, ◌+◌, ◌*◌, ◌≤◌, length};
 ghost use Rattle.paper.specs.Lists.{in_front};
 ghost use Rattle.paper.specs.Constructions.{reduced_key};

@@ -1,4 +1,6 @@
 // Whether a key is that of a value: in the reduced table what each letter makes of the vector, and its grade; elsewhere the value itself.
+#![tactic(auto)]
+
 ghost use Rattle.std.specs.Prelude.{◌≡◌, ◌+◌, ◌*◌, ◌<◌, length};
 ghost use Rattle.paper.specs.Lists.{same_list, all_below};
 ghost use Rattle.paper.specs.Vectors.{row_times};

@@ -15,10 +15,10 @@ use Rattle.paper.specs.Chart.{n_of, letters}
 use Rattle.paper.specs.Vectors.{row_times, end_grade}
 use Rattle.paper.specs.Constructions.{letter_key, reduced_key}
 use Rattle.replies.specs.declared.Shape.{Shape}
-use Rattle.lists.proofs.Tests.{not_both, all-at, all-by}
-use Rattle.lists.proofs.ByPlace.{joined-cong, length-joined, getD-joined, same_true, same_by, same_not, length_part, get_d_part}
+use Rattle.lists.proofs.Tests.{not_both, all_at, all_by}
+use Rattle.lists.proofs.ByPlace.{joined_cong, length_joined, get_or_joined, same_true, same_by, same_not, length_part, get_or_part}
 use Rattle.lists.proofs.Lent.{in_front_next}
-use Rattle.algebra.proofs.Vectors.{length-row}
+use Rattle.algebra.proofs.Vectors.{length_row}
 use Rattle.cells.specs.Shaped.{Shaped}
 use Rattle.kinds.specs.Kinds.{letter_same}
 use Rattle.places.proofs.Memory.{joined_part, lent_from, in_front_splice}
@@ -26,7 +26,7 @@ use Rattle.places.proofs.Memory.{joined_part, lent_from, in_front_splice}
 -- what x letters make of v
 length_letters : (c v : List ℕ) (x : ℕ) → length (joined x (letter_key c v)) ≡ x * n_of c
 unfolding letter_key
-length_letters c v x = length-joined x (n_of c) (letter_key c v) (λ y h. length-row c y v)
+length_letters c v x = length_joined x (n_of c) (letter_key c v) (λ y h. length_row c y v)
 
 pub length_key : {c : List ℕ} {s : Shape} (v : List ℕ) → Shaped c s → length (reduced_key c v) ≡ s.letters * s.n + 1
 unfolding reduced_key
@@ -45,16 +45,16 @@ module _ {c : List ℕ} {s : Shape} (h : Shaped c s) (v : List ℕ) (old : List 
       put_mid at (length out - at) out p ≡ in_front (joined (x + 1) (letter_key c v)) old
   unfolding joined letter_key
   key_more x at out p l e lo eo ep =
-      let r : length (row_times c x v) ≡ s.n = length-row c x v ∙ sym h.n_is in
+      let r : length (row_times c x v) ≡ s.n = length_row c x v ∙ sym h.n_is in
       lent_from at (row_times c x v) out p (rw (r, lo) (omega (arith, letter_inside x s.letters s.n at (length old) e l fits))) ep
       ∙ in_front_splice (joined x (letter_key c v)) old (row_times c x v) out at eo (rw (length_letters c v x, ← h.n_is) (sym e))
       ∙ rw add-one
 
   -- the grade last
-  pub key-all : (x at : ℕ) (out : List ℕ) {g : ℕ} → x ≡ s.letters → at ≡ x * s.n → out ≡ in_front (joined x (letter_key c v)) old → g ≡ end_grade c v →
+  pub key_all : (x at : ℕ) (out : List ℕ) {g : ℕ} → x ≡ s.letters → at ≡ x * s.n → out ≡ in_front (joined x (letter_key c v)) old → g ≡ end_grade c v →
       set out at g ≡ in_front (reduced_key c v) old
   unfolding reduced_key
-  key-all x at out e ea eo eg =
+  key_all x at out e ea eo eg =
       let n : length (joined (letters c) (letter_key c v)) ≡ at = rw (length_letters c v (letters c), ← h.n_is, ← h.letters_is) (rw ea (rw e refl)) in
       let m : at < length old = omega (arith, ap (λ y. y * s.n) e) in
       rw (eo, eg, e, h.letters_is, ← n) (in_front_next (joined (letters c) (letter_key c v)) old (end_grade c v) (rw n m))
@@ -63,31 +63,31 @@ module _ {c : List ℕ} {s : Shape} (h : Shaped c s) (v : List ℕ) (old : List 
 
 module _ {c : List ℕ} {s : Shape} (h : Shaped c s) (v key : List ℕ) (long : length key ≡ s.letters * s.n + 1) where
   -- letter x's part of a key, as the code takes it
-  pub letter-part : (x at : ℕ) {r : Bool} → at ≡ x * s.n → r ≡ same_list (row_times c x v) (take (at + s.n - at) (drop at key)) → r ≡ letter_same c v s.n key x
+  pub letter_part : (x at : ℕ) {r : Bool} → at ≡ x * s.n → r ≡ same_list (row_times c x v) (take (at + s.n - at) (drop at key)) → r ≡ letter_same c v s.n key x
   unfolding letter_same part
-  letter-part x at e f = let q : at + s.n - at ≡ s.n = omega arith in f ∙ rw (q, e)
+  letter_part x at e f = let q : at + s.n - at ≡ s.n = omega arith in f ∙ rw (q, e)
 
-  key-letters : (x j : ℕ) → x < s.letters → j < s.n → get_or (reduced_key c v) (x * s.n + j) 0 ≡ get_or (row_times c x v) j 0
+  key_letters : (x j : ℕ) → x < s.letters → j < s.n → get_or (reduced_key c v) (x * s.n + j) 0 ≡ get_or (row_times c x v) j 0
   unfolding reduced_key letter_key
-  key-letters x j a b =
+  key_letters x j a b =
       let a' : x < letters c = rw (← h.letters_is) a in
       let b' : j < n_of c = rw (← h.n_is) b in
       rw h.n_is
       (get_or-append (joined (letters c) (letter_key c v)) _ 0 (x * n_of c + j) (rw length_letters (digits_lt a' b'))
-      ∙ getD-joined (letters c) (n_of c) (letter_key c v) 0 (λ y l. length-row c y v) x j a' b')
+      ∙ get_or_joined (letters c) (n_of c) (letter_key c v) 0 (λ y l. length_row c y v) x j a' b')
 
-  key-grade : get_or (reduced_key c v) (s.letters * s.n) 0 ≡ end_grade c v
+  key_grade : get_or (reduced_key c v) (s.letters * s.n) 0 ≡ end_grade c v
   unfolding reduced_key
-  key-grade = get_or_at (joined (letters c) (letter_key c v)) (end_grade c v) [] 0 (s.letters * s.n) (rw (length_letters, h.letters_is, h.n_is))
+  key_grade = get_or_at (joined (letters c) (letter_key c v)) (end_grade c v) [] 0 (s.letters * s.n) (rw (length_letters, h.letters_is, h.n_is))
 
-  pub part-long : (x at : ℕ) → at ≡ x * s.n → x < s.letters → length (take (at + s.n - at) (drop at key)) ≡ s.n
-  part-long x at e l =
+  pub part_long : (x at : ℕ) → at ≡ x * s.n → x < s.letters → length (take (at + s.n - at) (drop at key)) ≡ s.n
+  part_long x at e l =
       let f : at + s.n < length key = letter_inside x s.letters s.n at (length key) e l (omega arith) in
       simp (length-take, length-drop) (omega arith)
 
   -- another grade
-  pub grade-differs : {g : ℕ} → g ≡ end_grade c v → (g ≡ get_or key (s.letters * s.n) 0 → ⊥) → false ≡ same_list (reduced_key c v) key
-  grade-differs e f = sym (same_not (reduced_key c v) key (λ q. f (e ∙ sym key-grade ∙ ap (λ y. get_or y (s.letters * s.n) 0) q)))
+  pub grade_differs : {g : ℕ} → g ≡ end_grade c v → (g ≡ get_or key (s.letters * s.n) 0 → ⊥) → false ≡ same_list (reduced_key c v) key
+  grade_differs e f = sym (same_not (reduced_key c v) key (λ q. f (e ∙ sym key_grade ∙ ap (λ y. get_or y (s.letters * s.n) 0) q)))
 
   -- the letters and the grade agree
   same_parts : get_or key (s.letters * s.n) 0 ≡ end_grade c v → ((x : ℕ) → x < s.letters → letter_same c v s.n key x ≡ true) → reduced_key c v ≡ key
@@ -95,7 +95,7 @@ module _ {c : List ℕ} {s : Shape} (h : Shaped c s) (v key : List ℕ) (long : 
   same_parts g a =
       let e : joined (letters c) (letter_key c v) ≡ take (s.letters * s.n) key =
       rw (← h.letters_is)
-      (joined-cong s.letters (letter_key c v) (λ x. part s.n x key) (λ x l. same_true (row_times c x v) (part s.n x key) (a x l))
+      (joined_cong s.letters (letter_key c v) (λ x. part s.n x key) (λ x l. same_true (row_times c x v) (part s.n x key) (a x l))
       ∙ joined_part s.n s.letters key) in
       let m : s.letters * s.n < length key = omega arith in
       rw (e, ← g, ← take-suc key (s.letters * s.n) 0 m) (take_all (suc (s.letters * s.n)) key (omega arith))
@@ -111,31 +111,31 @@ module _ {c : List ℕ} {s : Shape} (h : Shaped c s) (v key : List ℕ) (long : 
       (row_times c x v)
       (part s.n x (reduced_key c v))
       (sym
-      (ext_get_or 0 (part s.n x (reduced_key c v)) (row_times c x v) (n ∙ h.n_is ∙ sym (length-row c x v))
+      (ext_get_or 0 (part s.n x (reduced_key c v)) (row_times c x v) (n ∙ h.n_is ∙ sym (length_row c x v))
       (λ j b.
       let b' : j < s.n = rw n at b in
-      get_d_part s.n x (reduced_key c v) 0 j b' ∙ key-letters x j l b'))))
+      get_or_part s.n x (reduced_key c v) 0 j b' ∙ key_letters x j l b'))))
 
   -- the same grade: the letters decide
-  pub letters-decide : {g : ℕ} {r : Bool} → g ≡ end_grade c v → g ≡ get_or key (s.letters * s.n) 0 → r ≡ all_below s.letters (letter_same c v s.n key) →
+  pub letters_decide : {g : ℕ} {r : Bool} → g ≡ end_grade c v → g ≡ get_or key (s.letters * s.n) 0 → r ≡ all_below s.letters (letter_same c v s.n key) →
       r ≡ same_list (reduced_key c v) key
-  letters-decide {g} {r} e f d = go r d
+  letters_decide {g} {r} e f d = go r d
     where
       go : (b : Bool) → b ≡ all_below s.letters (letter_same c v s.n key) → b ≡ same_list (reduced_key c v) key
-      go true d = sym (same_by (reduced_key c v) key (same_parts (sym f ∙ e) (all-at (letter_same c v s.n key) s.letters (sym d))))
-      go false d = sym (same_not (reduced_key c v) key (λ q. not_both (all-by (letter_same c v s.n key) s.letters (parts_same q)) (sym d)))
+      go true d = sym (same_by (reduced_key c v) key (same_parts (sym f ∙ e) (all_at (letter_same c v s.n key) s.letters (sym d))))
+      go false d = sym (same_not (reduced_key c v) key (λ q. not_both (all_by (letter_same c v s.n key) s.letters (parts_same q)) (sym d)))
 
 -- what a letter makes of v, in front of a local array
 module _ {c : List ℕ} {s : Shape} (h : Shaped c s) (x : ℕ) (v : List ℕ) where
-  made-is : (old : List ℕ) {out : List ℕ} → out ≡ in_front (row_times c x v) old → take s.n out ≡ row_times c x v
+  made_is : (old : List ℕ) {out : List ℕ} → out ≡ in_front (row_times c x v) old → take s.n out ≡ row_times c x v
   unfolding in_front
-  made-is old e = rw e (take_at (row_times c x v) _ s.n (length-row c x v ∙ sym h.n_is))
+  made_is old e = rw e (take_at (row_times c x v) _ s.n (length_row c x v ∙ sym h.n_is))
 
-  pub made-long : (old : List ℕ) {out : List ℕ} → out ≡ in_front (row_times c x v) old → length (take s.n out) ≡ s.n
-  made-long old e = ap length (made-is old e) ∙ length-row c x v ∙ sym h.n_is
+  pub made_long : (old : List ℕ) {out : List ℕ} → out ≡ in_front (row_times c x v) old → length (take s.n out) ≡ s.n
+  made_long old e = ap length (made_is old e) ∙ length_row c x v ∙ sym h.n_is
 
-  pub made-front : (old due : List ℕ) {out : List ℕ} → out ≡ in_front (row_times c x v) old → same_list (take s.n out) due ≡ same_list (row_times c x v) due
-  made-front old due e = ap (λ y. same_list y due) (made-is old e)
+  pub made_front : (old due : List ℕ) {out : List ℕ} → out ≡ in_front (row_times c x v) old → same_list (take s.n out) due ≡ same_list (row_times c x v) due
+  made_front old due e = ap (λ y. same_list y due) (made_is old e)
 
 -- the whole key, in front of a local array
 pub key_front : {c : List ℕ} {s : Shape} → Shaped c s → (v old : List ℕ) {out : List ℕ} → out ≡ in_front (reduced_key c v) old → take (s.letters * s.n + 1) out ≡ reduced_key c v

@@ -1,10 +1,12 @@
 // The four constructions, and the plan by which one of them is made.
+#![tactic(auto)]
+
 ghost use Rattle.std.specs.Prelude.{◌≡◌};
 ghost use Rattle.kinds.specs.Kinds.{keyed};
 
 use replies::Shape;
 
-#[derive(Drop)]
+#[derive(Clone, Copy)]
 pub enum Kind {
     Nerode,
     Reduced,
@@ -13,7 +15,7 @@ pub enum Kind {
 }
 
 // What is made, and its sizes: `width` bytes a value, one every `stride` bytes, and at most `room` states.
-#[derive(Drop)]
+#[derive(Clone, Copy)]
 pub struct Plan {
     pub kind: Kind,
     pub shape: Shape,

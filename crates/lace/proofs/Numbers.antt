@@ -1,16 +1,12 @@
 -- The numbers that the C calls answer, case by case of an answer. Assumes nothing.
 use mathlib.Core.Path.{◌≡◌, refl}
-use mathlib.Core.List.{List, [], ◌∷◌}
 use Prim.Native.Nat.{ℕ}
-use types.Run.{OneOf, miss}
-use denote.Enum.Declared.{tag_of}
 use Rattle.paper.specs.Tables.{grade_code, step_code}
 use Rattle.replies.specs.Replies.{said, stepped_said, graded_said}
 use Rattle.replies.specs.declared.Refusal.{Refusal}
 use Rattle.replies.specs.declared.Refusal.TheVariants.{Sizes, Short, Grade, Law, Room, Reverse, States, Letter, Table, Sheet, Start, Line, Next, Text}
 use Rattle.replies.specs.declared.Stepped.{Stepped}
 use Rattle.replies.specs.declared.Graded.{Graded}
-use Rattle.replies.specs.contracts.Refusal as R
 use Rattle.replies.proofs.Said.{said_refuses}
 
 -- ---- a grade's number
@@ -26,11 +22,11 @@ module _ (answer : Graded) where
 
 -- ---- a step's number
 
--- the variants that the last arm takes: all but `Letter`
-abbrev others : List ℕ
-others = 0 ∷ 1 ∷ 2 ∷ 3 ∷ 4 ∷ 5 ∷ 6 ∷ 8 ∷ 9 ∷ 10 ∷ 11 ∷ 12 ∷ 13 ∷ []
+-- the last arm takes all variants but `Letter`
+abbrev NoLetter : Refusal → Type 0
+NoLetter why = (at : ℕ) → why ≡ Letter at → ⊥
 
-said_other : (why : Refusal) → OneOf others (tag_of R.the_type why) → ◌≡◌ {A = ℕ} 65535 (step_code (said why))
+said_other : (why : Refusal) → NoLetter why → ◌≡◌ {A = ℕ} 65535 (step_code (said why))
 unfolding step_code
 said_other Sizes k = refl
 said_other Short k = refl
@@ -39,7 +35,7 @@ said_other (Law law a b c) k = refl
 said_other Room k = refl
 said_other Reverse k = refl
 said_other States k = refl
-said_other (Letter at) k = absurd (miss others 7 tt k)
+said_other (Letter at) k = absurd (k at refl)
 said_other Table k = refl
 said_other Sheet k = refl
 said_other Start k = refl
@@ -56,5 +52,5 @@ module _ (answer : Stepped) where
   unfolding step_code
   step_letter why e at q = rw (e, q)
 
-  pub step_other : (why : Refusal) → answer ≡ Stepped.Refused why → OneOf others (tag_of R.the_type why) → ◌≡◌ {A = ℕ} 65535 (step_code (stepped_said answer))
+  pub step_other : (why : Refusal) → answer ≡ Stepped.Refused why → NoLetter why → ◌≡◌ {A = ℕ} 65535 (step_code (stepped_said answer))
   step_other why e k = rw e (said_other why k)

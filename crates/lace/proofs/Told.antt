@@ -10,7 +10,7 @@ use Rattle.paper.specs.Lists.{unless}
 use Rattle.paper.specs.Reply.{Reply}
 use Rattle.paper.specs.Tables.{grade_at, next_at, grade_top, row_fits, size_fits, step_reply, grade_reply, step_code, grade_code}
 use Rattle.rows.proofs.Rows.{size_parts}
-use Rattle.rows.proofs.Rows.{row-grade, row_next}
+use Rattle.rows.proofs.Rows.{row_grade_lem, row_next}
 use Rattle.lace.specs.Told.{step_told, grade_told}
 
 -- what holds of the refusal, and of the rest where the test passes, holds of the choice
@@ -40,7 +40,7 @@ unfolding grade_reply
 grade_told_lem rows count m s =
     unless_case GradeTells (size_fits rows count m) _ _ grade_refused (λ _.
     unless_case GradeTells (ltb s count) _ _ grade_refused (λ _.
-    unless_case GradeTells (row_fits rows count m grade_top s) _ _ grade_refused (λ e. grade_given (grade_at rows m s) (row-grade rows count m grade_top s e))))
+    unless_case GradeTells (row_fits rows count m grade_top s) _ _ grade_refused (λ e. grade_given (grade_at rows m s) (row_grade_lem rows count m grade_top s e))))
 
 -- ---- steps
 

@@ -1,4 +1,6 @@
-// The calls that C makes; include/lace.h declares them. A refusal is a reserved number.
+// The calls that C makes, by way of `lace_c`; include/lace.h declares them. A refusal is a reserved number.
+#![tactic(auto)]
+
 ghost use Rattle.std.specs.Prelude.{◌≡◌};
 ghost use Rattle.replies.specs.Replies.{stepped_said, graded_said};
 ghost use Rattle.paper.specs.Tables.{step_reply, grade_reply, step_code, grade_code};
@@ -29,16 +31,14 @@ fn grade_number(answer: Graded) -> u8
 }
 
 // One step from a state by a letter.
-#[unsafe(no_mangle)]
-pub extern "C" fn lace_step(rows: &[u8], count: usize, m: usize, state: usize, letter: usize) -> u16
+pub fn lace_step(rows: &[u8], count: usize, m: usize, state: usize, letter: usize) -> u16
     ensures { result ≡ step_code (step_reply rows.now count m state letter) }
 {
     step_number(steps::step(rows, count, m, state, letter))
 }
 
 // The grade of a state.
-#[unsafe(no_mangle)]
-pub extern "C" fn lace_grade(rows: &[u8], count: usize, m: usize, state: usize) -> u8
+pub fn lace_grade(rows: &[u8], count: usize, m: usize, state: usize) -> u8
     ensures { result ≡ grade_code (grade_reply rows.now count m state) }
 {
     grade_number(steps::grade(rows, count, m, state))

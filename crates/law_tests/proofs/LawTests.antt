@@ -14,8 +14,8 @@ use Rattle.lists.proofs.Tests.{both_not_left}
 -- ---- two tests, the second made only where the first passes
 
 module _ {r s x y : ℕ} (p : r ≡ x) (q : s ≡ y) where
-  first-fails : (rest : Bool) → (r ≡ s → ⊥) → eqb r s ≡ both (eqb x y) rest
-  first-fails rest n = rw (p, q, ne_eqb x y (λ e. n (p ∙ e ∙ sym q))) (sym (both_not_left false rest refl))
+  first_fails : (rest : Bool) → (r ≡ s → ⊥) → eqb r s ≡ both (eqb x y) rest
+  first_fails rest n = rw (p, q, ne_eqb x y (λ e. n (p ∙ e ∙ sym q))) (sym (both_not_left false rest refl))
 
   first_passes : {rest result : Bool} → r ≡ s → result ≡ rest → result ≡ both (eqb x y) rest
   unfolding both
@@ -34,23 +34,23 @@ module _ (ch : List ℕ) (a : ℕ) where
     left : l ≡ prod ch (e_of ch) a
     left = p ∙ ap (λ e. prod ch e a) ee
 
-    pub unit-fails : (l ≡ a → ⊥) → eqb l a ≡ law_at ch 5 a 0 0
+    pub unit_fails : (l ≡ a → ⊥) → eqb l a ≡ law_at ch 5 a 0 0
     unfolding law_at laws
-    unit-fails = first-fails left refl _
+    unit_fails = first_fails left refl _
 
-    pub unit-passes : {r : ℕ} → l ≡ a → r ≡ prod ch a e → eqb r a ≡ law_at ch 5 a 0 0
+    pub unit_passes : {r : ℕ} → l ≡ a → r ≡ prod ch a e → eqb r a ≡ law_at ch 5 a 0 0
     unfolding law_at laws
-    unit-passes t q = first_passes left refl t (ap (λ r. eqb r a) (q ∙ ap (prod ch a) ee))
+    unit_passes t q = first_passes left refl t (ap (λ r. eqb r a) (q ∙ ap (prod ch a) ee))
 
   -- 0 on the left gives l, on the right r
   module _ {l : ℕ} (p : l ≡ prod ch 0 a) where
-    pub zero-fails : (l ≡ 0 → ⊥) → eqb l 0 ≡ law_at ch 6 a 0 0
+    pub zero_fails : (l ≡ 0 → ⊥) → eqb l 0 ≡ law_at ch 6 a 0 0
     unfolding law_at laws
-    zero-fails = first-fails p refl _
+    zero_fails = first_fails p refl _
 
-    pub zero-passes : {r : ℕ} → l ≡ 0 → r ≡ prod ch a 0 → eqb r 0 ≡ law_at ch 6 a 0 0
+    pub zero_passes : {r : ℕ} → l ≡ 0 → r ≡ prod ch a 0 → eqb r 0 ≡ law_at ch 6 a 0 0
     unfolding law_at laws
-    zero-passes t q = first_passes p refl t (ap (λ r. eqb r 0) q)
+    zero_passes t q = first_passes p refl t (ap (λ r. eqb r 0) q)
 
   -- a before the join of b and c, and a before each
   module _ (b c : ℕ) {bc ab ac sum l : ℕ}
@@ -61,23 +61,23 @@ module _ (ch : List ℕ) (a : ℕ) where
     parts : sum ≡ join ch (prod ch a b) (prod ch a c)
     parts = s ∙ ap₂ (join ch) p q
 
-    pub distributes-fails : (l ≡ sum → ⊥) → eqb l sum ≡ law_at ch 7 a b c
+    pub distributes_fails : (l ≡ sum → ⊥) → eqb l sum ≡ law_at ch 7 a b c
     unfolding law_at laws
-    distributes-fails = first-fails whole parts _
+    distributes_fails = first_fails whole parts _
 
-    pub distributes-passes : {ba ca sum' r : ℕ} → l ≡ sum →
+    pub distributes_passes : {ba ca sum' r : ℕ} → l ≡ sum →
         ba ≡ prod ch b a → ca ≡ prod ch c a → sum' ≡ join ch ba ca → r ≡ prod ch bc a → eqb r sum' ≡ law_at ch 7 a b c
     unfolding law_at laws
-    distributes-passes t p' q' s' v' =
+    distributes_passes t p' q' s' v' =
         first_passes whole parts t (ap₂ eqb (v' ∙ ap (λ x. prod ch x a) j) (s' ∙ ap₂ (join ch) p' q'))
 
 -- ---- by the law's number
 
 module _ (ch : List ℕ) (a b c : ℕ) {law : ℕ} where
-  pub law-by : (n : ℕ) {r : Bool} → law ≡ n → r ≡ law_at ch n a b c → r ≡ law_at ch law a b c
-  law-by n e p = rw e p
+  pub law_by : (n : ℕ) {r : Bool} → law ≡ n → r ≡ law_at ch n a b c → r ≡ law_at ch law a b c
+  law_by n e p = rw e p
 
   -- there is no law behind the last
-  pub law-none : 8 ≤ law → true ≡ law_at ch law a b c
+  pub law_none : 8 ≤ law → true ≡ law_at ch law a b c
   unfolding law_at laws
-  law-none h = sym (get_or-eq_default (laws ch a b c) true h)
+  law_none h = sym (get_or-eq_default (laws ch a b c) true h)

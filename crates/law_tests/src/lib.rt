@@ -1,4 +1,6 @@
 // Whether one law holds of some grades. Each has a `requires`, so only proved code may call them.
+#![tactic(auto)]
+
 ghost use Rattle.std.specs.Prelude.{◌≡◌, ◌<◌};
 ghost use Rattle.paper.specs.Check.{law_at};
 ghost use Rattle.cells.specs.Shaped.{Shaped};

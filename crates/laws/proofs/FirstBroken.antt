@@ -11,7 +11,7 @@ use Rattle.paper.specs.Check.{law_at_two, law_at_one, law_holds, broken_law, bro
 use Rattle.lists.proofs.Tests.{not_both, least}
 use Rattle.laws.specs.declared.Broken.{Broken}
 use Rattle.laws.specs.Laws.{FirstBroken}
-use Rattle.laws.proofs.Tries.{Tried, fails-at, all_pass, one-fails}
+use Rattle.laws.proofs.Tries.{Tried, fails_at, all_pass, one_fails}
 
 -- the least number at which a test fails, where not every test passes
 least_low : (test : ℕ → Bool) (n : ℕ) → all_below n test ≡ false → least_fail n test < n
@@ -30,9 +30,9 @@ module _ (ch : List ℕ) (law : ℕ) {k a : ℕ} (m : k ≡ k_of ch) (ea : a ≡
       omega (arith, least_low (law_at_two ch law a) (k_of ch) broken)
 
   -- and is the first broken law, where the laws before it hold
-  pub first-is : {b c : ℕ} → a < k → b ≡ broken_b ch law a → c ≡ broken_c ch law a b → Tried 8 8 (law_holds ch) law → law < 8 →
+  pub first_is : {b c : ℕ} → a < k → b ≡ broken_b ch law a → c ≡ broken_c ch law a b → Tried 8 8 (law_holds ch) law → law < 8 →
       FirstBroken ch (Broken.At (law + 1) a b c)
   unfolding broken_law broken_a broken_at law_holds
-  first-is h eb ec t low =
-      let first : law ≡ least_fail 8 (law_holds ch) = fails-at t refl low (one-fails (law_at_one ch law) m ea h) in
+  first_is h eb ec t low =
+      let first : law ≡ least_fail 8 (law_holds ch) = fails_at t refl low (one_fails (law_at_one ch law) m ea h) in
       (omega arith, rw (← first, add-one, ec, eb, ea))

@@ -8,7 +8,7 @@ use native.Mathlib.Omega.{arith}
 use borrow.Author.Count.{below_none, below_more}
 use Rattle.paper.specs.Lists.{all_below, least_fail}
 use Rattle.paper.specs.Check.{laws, law_at, law_at_two}
-use Rattle.lists.proofs.Tests.{all-by, all-fails, least, least-is, least-all, least-none}
+use Rattle.lists.proofs.Tests.{all_by, all_fails, least, least_is, least_all, least_none}
 use Rattle.laws.specs.Laws.{Enough}
 
 -- all of the numbers
@@ -21,17 +21,17 @@ one h same = record { low = h; all = λ f i l. same i ∙ f 0 (omega arith) }
 
 module _ {k : ℕ} (some : 0 < k) (ch : List ℕ) where
   -- laws 1, 2, 4, 6 and 7 of the paper say nothing of c
-  pub one-c : (law a b : ℕ) → ((law ≡ 2) ⊎ ((law ≡ 4) ⊎ (law ≡ 7)) → ⊥) → Enough k 1 (law_at ch law a b)
+  pub one_c : (law a b : ℕ) → ((law ≡ 2) ⊎ ((law ≡ 4) ⊎ (law ≡ 7)) → ⊥) → Enough k 1 (law_at ch law a b)
   unfolding law_at laws
-  one-c zero a b n = one some (λ c. refl)
-  one-c (suc zero) a b n = one some (λ c. refl)
-  one-c (suc (suc zero)) a b n = absurd (n (inl refl))
-  one-c (suc (suc (suc zero))) a b n = one some (λ c. refl)
-  one-c (suc (suc (suc (suc zero)))) a b n = absurd (n (inr (inl refl)))
-  one-c (suc (suc (suc (suc (suc zero))))) a b n = one some (λ c. refl)
-  one-c (suc (suc (suc (suc (suc (suc zero)))))) a b n = one some (λ c. refl)
-  one-c (suc (suc (suc (suc (suc (suc (suc zero))))))) a b n = absurd (n (inr (inr refl)))
-  one-c (suc (suc (suc (suc (suc (suc (suc (suc law)))))))) a b n = one some (λ c. refl)
+  one_c zero a b n = one some (λ c. refl)
+  one_c (suc zero) a b n = one some (λ c. refl)
+  one_c (suc (suc zero)) a b n = absurd (n (inl refl))
+  one_c (suc (suc (suc zero))) a b n = one some (λ c. refl)
+  one_c (suc (suc (suc (suc zero)))) a b n = absurd (n (inr (inl refl)))
+  one_c (suc (suc (suc (suc (suc zero))))) a b n = one some (λ c. refl)
+  one_c (suc (suc (suc (suc (suc (suc zero)))))) a b n = one some (λ c. refl)
+  one_c (suc (suc (suc (suc (suc (suc (suc zero))))))) a b n = absurd (n (inr (inr refl)))
+  one_c (suc (suc (suc (suc (suc (suc (suc (suc law)))))))) a b n = one some (λ c. refl)
 
   -- laws 1, 4, 6 and 7 of the paper say nothing of b
   pub one_b : (law a : ℕ) → (law ≡ 1 → ⊥) → (law ≡ 2 → ⊥) → ((law ≡ 4) ⊎ (law ≡ 7) → ⊥) → Enough k 1 (law_at_two ch law a)
@@ -55,25 +55,25 @@ pub record Tried (k n : ℕ) (test : ℕ → Bool) (i : ℕ) : Type 0 where
   pub passed : (j : ℕ) → j < i → test j ≡ true
 
 module _ {k n : ℕ} {test : ℕ → Bool} where
-  pub tried-none : Enough k n test → Tried k n test 0
-  tried-none enough = record { enough = enough; within = omega arith; passed = below_none _ }
+  pub tried_none : Enough k n test → Tried k n test 0
+  tried_none enough = record { enough = enough; within = omega arith; passed = below_none _ }
 
   module _ {i : ℕ} (t : Tried k n test i) where
-    pub tried-more : i < n → test i ≡ true → Tried k n test (i + 1)
-    tried-more h e = record { enough = t.enough; within = omega arith; passed = below_more _ i t.passed e }
+    pub tried_more : i < n → test i ≡ true → Tried k n test (i + 1)
+    tried_more h e = record { enough = t.enough; within = omega arith; passed = below_more _ i t.passed e }
 
     -- where it fails, or where it never does, is the least number at which the test fails
-    pub fails-at : {most : ℕ} → k ≡ most → i < n → test i ≡ false → i ≡ least_fail most test
-    fails-at {most} m h e = sym (least-is test most i (omega (arith, t.enough.low)) t.passed e)
+    pub fails_at : {most : ℕ} → k ≡ most → i < n → test i ≡ false → i ≡ least_fail most test
+    fails_at {most} m h e = sym (least_is test most i (omega (arith, t.enough.low)) t.passed e)
 
-    pub fails-nowhere : {most : ℕ} → k ≡ most → n ≤ i → k ≡ least_fail most test
-    fails-nowhere m h = m ∙ sym (least-none test _ (λ j l. t.enough.all (λ j l. t.passed j (omega arith)) j (omega arith)))
+    pub fails_nowhere : {most : ℕ} → k ≡ most → n ≤ i → k ≡ least_fail most test
+    fails_nowhere m h = m ∙ sym (least_none test _ (λ j l. t.enough.all (λ j l. t.passed j (omega arith)) j (omega arith)))
 
 -- ---- from the first failure to all tests
 
 module _ (test : ℕ → Bool) {k most r : ℕ} (m : k ≡ most) (e : r ≡ least_fail most test) where
   pub all_pass : k ≤ r → all_below most test ≡ true
-  all_pass h = all-by test most (least-all test most (omega arith))
+  all_pass h = all_by test most (least_all test most (omega arith))
 
-  pub one-fails : r < k → all_below most test ≡ false
-  one-fails h = all-fails test most (least_fail most test) (omega arith) ((least test most).fails (omega arith))
+  pub one_fails : r < k → all_below most test ≡ false
+  one_fails h = all_fails test most (least_fail most test) (omega arith) ((least test most).fails (omega arith))

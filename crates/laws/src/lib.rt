@@ -1,4 +1,6 @@
 // The first law that is broken, and its first grades. Each has a `requires`, so only proved code may call them.
+#![tactic(auto)]
+
 ghost use Rattle.std.specs.Prelude.{◌≡◌, List, ℕ, ◌<◌};
 ghost use Rattle.paper.specs.Check.{law_at, law_at_two, broken_a, broken_b, broken_c};
 ghost use Rattle.cells.specs.Shaped.{Shaped};
@@ -8,7 +10,7 @@ use law_tests::law_at;
 use replies::Shape;
 
 // Where the laws are first broken: the paper's number of the law, and its grades.
-#[derive(Drop)]
+#[derive(Clone, Copy)]
 pub enum Broken {
     Nowhere,
     At {

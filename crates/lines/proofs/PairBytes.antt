@@ -4,15 +4,15 @@ use mathlib.Core.Bool.{Bool}
 use mathlib.Core.List.{List, [], ◌∷◌, append-nil}
 use Prim.Native.Nat.{ℕ, zero, suc, ◌+◌, ◌-◌, ◌/◌, ◌%◌, ◌≤◌, ◌<◌}
 use native.Mathlib.Omega.{arith}
-use lib.ListN.{length, get_or, take, drop, set, length-set, drop_of_length-le}
+use lib.ListN.{length, get_or, take, drop, set, drop_of_length-le}
 use lib.Seq.{take_at, take_all, get_or-drop, ext_get_or}
-use borrow.Rule.Slice.PartMut.{put_mid, same_len_mid}
+use borrow.Rule.Slice.PartMut.{put_mid}
 use Rattle.replies.specs.declared.Shape.{Shape}
 use Rattle.paper.specs.Lists.{in_front}
 use Rattle.paper.specs.Tables.{two_bytes}
 use Rattle.paper.specs.Sheets.{line_at, line_state, line_vector, on_sheet}
 use Rattle.lines.specs.Readable.{LineIn, pair_state, pair_vector, pair_of}
-use Rattle.lines.proofs.Reading.{line-length}
+use Rattle.lines.proofs.Reading.{line_length}
 
 -- ---- writing a pair
 
@@ -30,55 +30,50 @@ pair_put s (x ∷ y ∷ r) v p l e =
     let w : length r ≤ suc (suc (length r)) - 2 = omega arith in
     rw (e, take_all _ r w, drop_of_length-le r w, append-nil)
 
--- whatever the two bytes are, the buffer keeps its length
-pub length_put : (a b : ℕ) (old p : List ℕ) → length p ≡ length (take (length (set (set old 0 a) 1 b) - 2) (drop 2 (set (set old 0 a) 1 b))) →
-    length (put_mid 2 (length (set (set old 0 a) 1 b) - 2) (set (set old 0 a) 1 b) p) ≡ length old
-length_put a b old p e = same_len_mid 2 (length (set (set old 0 a) 1 b) - 2) (set (set old 0 a) 1 b) p e ∙ rw (length-set, length-set)
-
 -- ---- reading it back
 
 module _ (s : ℕ) (v : List ℕ) where
-  pub pair-state : s < 65536 → pair_state (pair_of s v) ≡ s
+  pub pair_state_lem : s < 65536 → pair_state (pair_of s v) ≡ s
   unfolding pair_of two_bytes
-  pair-state h = omega arith
+  pair_state_lem h = omega arith
 
-  pub pair-vector : pair_vector (pair_of s v) ≡ v
+  pub pair_vector_lem : pair_vector (pair_of s v) ≡ v
   unfolding pair_of two_bytes
-  pair-vector = refl
+  pair_vector_lem = refl
 
-  length-pair : length (pair_of s v) ≡ 2 + length v
+  length_pair : length (pair_of s v) ≡ 2 + length v
   unfolding pair_of two_bytes
-  length-pair = omega arith
+  length_pair = omega arith
 
   module _ (n : ℕ) (l : length v ≡ n) (old out : List ℕ) (e : out ≡ in_front (pair_of s v) old) where
-    pub pair-front : take (2 + n) out ≡ pair_of s v
+    pub pair_front : take (2 + n) out ≡ pair_of s v
     unfolding in_front
-    pair-front = rw e (take_at (pair_of s v) (drop (length (pair_of s v)) old) (2 + n) (length-pair ∙ omega arith))
+    pair_front = rw e (take_at (pair_of s v) (drop (length (pair_of s v)) old) (2 + n) (length_pair ∙ omega arith))
 
     pub length_front : length (take (2 + n) out) ≡ 2 + n
-    length_front = ap length pair-front ∙ length-pair ∙ omega arith
+    length_front = ap length pair_front ∙ length_pair ∙ omega arith
 
     -- what was looked up is the pair of s and v
-    pub pair-said : (c sheet : List ℕ) (lines : ℕ) {r : Bool} → s < 65536 → r ≡ on_sheet c sheet lines (pair_state (take (2 + n) out)) (pair_vector (take (2 + n) out)) → r ≡ on_sheet c sheet lines s v
-    pair-said c sheet lines h q =
-        q ∙ ap (λ (p : List ℕ). on_sheet c sheet lines (pair_state p) (pair_vector p)) pair-front ∙ ap₂ (on_sheet c sheet lines) (pair-state h) pair-vector
+    pub pair_said : (c sheet : List ℕ) (lines : ℕ) {r : Bool} → s < 65536 → r ≡ on_sheet c sheet lines (pair_state (take (2 + n) out)) (pair_vector (take (2 + n) out)) → r ≡ on_sheet c sheet lines s v
+    pair_said c sheet lines h q =
+        q ∙ ap (λ (p : List ℕ). on_sheet c sheet lines (pair_state p) (pair_vector p)) pair_front ∙ ap₂ (on_sheet c sheet lines) (pair_state_lem h) pair_vector_lem
 
 -- ---- when a line holds it
 
 module _ {c : List ℕ} {s : Shape} {sheet : List ℕ} {i : ℕ} (h : LineIn c s sheet i) (pair : List ℕ) where
-  pub line-state : line_at c sheet i ≡ pair → line_state c sheet i ≡ pair_state pair
+  pub line_state_lem : line_at c sheet i ≡ pair → line_state c sheet i ≡ pair_state pair
   unfolding line_state
-  line-state e = ap pair_state e
+  line_state_lem e = ap pair_state e
 
-  pub line-vector : line_at c sheet i ≡ pair → line_vector c sheet i ≡ pair_vector pair
+  pub line_vector_lem : line_at c sheet i ≡ pair → line_vector c sheet i ≡ pair_vector pair
   unfolding line_vector
-  line-vector e = ap pair_vector e
+  line_vector_lem e = ap pair_vector e
 
   -- the second bytes are below 256, so two states agree only where both their bytes do
-  pub line-pair : length pair ≡ 2 + s.n → get_or (line_at c sheet i) 1 0 < 256 → get_or pair 1 0 < 256 → line_state c sheet i ≡ pair_state pair → line_vector c sheet i ≡ pair_vector pair →
+  pub line_pair : length pair ≡ 2 + s.n → get_or (line_at c sheet i) 1 0 < 256 → get_or pair 1 0 < 256 → line_state c sheet i ≡ pair_state pair → line_vector c sheet i ≡ pair_vector pair →
       line_at c sheet i ≡ pair
   unfolding line_state line_vector
-  line-pair l a b p q = ext_get_or 0 (line_at c sheet i) pair (line-length h ∙ sym l) (λ j _. at j)
+  line_pair l a b p q = ext_get_or 0 (line_at c sheet i) pair (line_length h ∙ sym l) (λ j _. at j)
     where
       at : (j : ℕ) → get_or (line_at c sheet i) j 0 ≡ get_or pair j 0
       at zero = omega arith

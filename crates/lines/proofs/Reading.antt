@@ -12,55 +12,55 @@ use Rattle.replies.specs.declared.Shape.{Shape}
 use Rattle.paper.specs.Lists.{both, all_below, part}
 use Rattle.paper.specs.Chart.{k_of, n_of}
 use Rattle.paper.specs.Sheets.{line_at, line_state, line_vector, line_grade_fits, line_fits, sheet_fits}
-use Rattle.lists.proofs.Tests.{both_false, all-fails, all_more}
-use Rattle.lists.proofs.ByPlace.{length_part, get_d_part}
+use Rattle.lists.proofs.Tests.{both_false, all_fails, all_more}
+use Rattle.lists.proofs.ByPlace.{length_part, get_or_part}
 use Rattle.cells.specs.Shaped.{Shaped}
 use Rattle.lines.specs.Readable.{LineIn, LinesIn}
 
 -- ---- one line
 
 module _ {c : List ℕ} {s : Shape} {sheet : List ℕ} {i : ℕ} (h : LineIn c s sheet i) where
-  pub state-is : (a b : ℕ) → a ≡ get_or sheet (i * (2 + s.n)) 0 → b ≡ get_or sheet (i * (2 + s.n) + 1) 0 → a * 256 + b ≡ line_state c sheet i
+  pub state_is : (a b : ℕ) → a ≡ get_or sheet (i * (2 + s.n)) 0 → b ≡ get_or sheet (i * (2 + s.n) + 1) 0 → a * 256 + b ≡ line_state c sheet i
   unfolding line_state line_at
-  state-is a b p q =
+  state_is a b p q =
       let e : i * (2 + s.n) + 0 ≡ i * (2 + s.n) = omega arith in
-      rw (← h.shaped.n_is, get_d_part (2 + s.n) i sheet 0 0 (omega arith), get_d_part (2 + s.n) i sheet 0 1 (omega arith), p, q, e)
+      rw (← h.shaped.n_is, get_or_part (2 + s.n) i sheet 0 0 (omega arith), get_or_part (2 + s.n) i sheet 0 1 (omega arith), p, q, e)
 
   -- the part that the code takes for the line
-  pub line-is : (r : List ℕ) → r ≡ take (i * (2 + s.n) + (2 + s.n) - i * (2 + s.n)) (drop (i * (2 + s.n)) sheet) → r ≡ line_at c sheet i
+  pub line_is : (r : List ℕ) → r ≡ take (i * (2 + s.n) + (2 + s.n) - i * (2 + s.n)) (drop (i * (2 + s.n)) sheet) → r ≡ line_at c sheet i
   unfolding line_at part
-  line-is r f =
+  line_is r f =
       let e : i * (2 + s.n) + (2 + s.n) - i * (2 + s.n) ≡ 2 + s.n = omega arith in
       f ∙ rw (e, h.shaped.n_is)
 
-  length-line : length (part (2 + s.n) i sheet) ≡ 2 + s.n
-  length-line = length_part (2 + s.n) i sheet (omega (arith, h.inside, suc-mul i (2 + s.n)))
+  length_line : length (part (2 + s.n) i sheet) ≡ 2 + s.n
+  length_line = length_part (2 + s.n) i sheet (omega (arith, h.inside, suc-mul i (2 + s.n)))
 
-  pub line-length : length (line_at c sheet i) ≡ 2 + s.n
+  pub line_length : length (line_at c sheet i) ≡ 2 + s.n
   unfolding line_at
-  line-length = rw (← h.shaped.n_is) length-line
+  line_length = rw (← h.shaped.n_is) length_line
 
-  pub length-vector : length (line_vector c sheet i) ≡ s.n
+  pub length_vector : length (line_vector c sheet i) ≡ s.n
   unfolding line_vector line_at
-  length-vector = rw (← h.shaped.n_is) (simp (length-drop, length-line) (omega arith))
+  length_vector = rw (← h.shaped.n_is) (simp (length-drop, length_line) (omega arith))
 
-  vector-at : (p : ℕ) → p < s.n → get_or (line_vector c sheet i) p 0 ≡ get_or sheet (i * (2 + s.n) + 2 + p) 0
+  vector_at : (p : ℕ) → p < s.n → get_or (line_vector c sheet i) p 0 ≡ get_or sheet (i * (2 + s.n) + 2 + p) 0
   unfolding line_vector line_at
-  vector-at p l =
+  vector_at p l =
       let e : i * (2 + s.n) + (2 + p) ≡ i * (2 + s.n) + 2 + p = omega arith in
-      rw (← h.shaped.n_is, get_or-drop) (get_d_part (2 + s.n) i sheet 0 (2 + p) (omega arith) ∙ rw e)
+      rw (← h.shaped.n_is, get_or-drop) (get_or_part (2 + s.n) i sheet 0 (2 + p) (omega arith) ∙ rw e)
 
   -- and for its vector
-  pub vector-is : (r : List ℕ) → r ≡ take (i * (2 + s.n) + 2 + s.n - (i * (2 + s.n) + 2)) (drop (i * (2 + s.n) + 2) sheet) → r ≡ line_vector c sheet i
-  vector-is r f =
+  pub vector_is : (r : List ℕ) → r ≡ take (i * (2 + s.n) + 2 + s.n - (i * (2 + s.n) + 2)) (drop (i * (2 + s.n) + 2) sheet) → r ≡ line_vector c sheet i
+  vector_is r f =
       let w : ℕ = i * (2 + s.n) + 2 + s.n - (i * (2 + s.n) + 2) in
       let e : w ≡ s.n = omega arith in
       let q : length (take w (drop (i * (2 + s.n) + 2) sheet)) ≡ s.n = simp (length-take, length-drop) (omega (arith, h.inside)) in
-      f ∙ ext_get_or 0 (take w (drop (i * (2 + s.n) + 2) sheet)) (line_vector c sheet i) (q ∙ sym length-vector)
+      f ∙ ext_get_or 0 (take w (drop (i * (2 + s.n) + 2) sheet)) (line_vector c sheet i) (q ∙ sym length_vector)
       (λ p l.
       let b : p < s.n = rw q at l in
       let b' : p < w = omega arith in
-      rw (get_or-take, get_or-drop) (sym (vector-at p b)))
+      rw (get_or-take, get_or-drop) (sym (vector_at p b)))
 
 -- ---- when a line fits
 
@@ -69,44 +69,44 @@ unfolding line_fits both
 state_high c count sheet i e l = rw (le-ltb (line_state c sheet i) count (rw e at l))
 
 module _ {c : List ℕ} {s : Shape} {sheet : List ℕ} {i : ℕ} (h : LineIn c s sheet i) (count : ℕ) where
-  pub grade-high : {v : List ℕ} (p : ℕ) → v ≡ line_vector c sheet i → p < length v → s.k ≤ get_or v p 0 → false ≡ line_fits c count sheet i
+  pub grade_high : {v : List ℕ} (p : ℕ) → v ≡ line_vector c sheet i → p < length v → s.k ≤ get_or v p 0 → false ≡ line_fits c count sheet i
   unfolding line_fits line_grade_fits
-  grade-high p e b l =
-      let b' : p < n_of c = rw (← h.shaped.n_is, ← length-vector h, ← e) b in
+  grade_high p e b l =
+      let b' : p < n_of c = rw (← h.shaped.n_is, ← length_vector h, ← e) b in
       let l' : k_of c ≤ get_or (line_vector c sheet i) p 0 = rw (← h.shaped.k_is, ← e) l in
-      rw (all-fails (line_grade_fits c sheet i) (n_of c) p b' (le-ltb _ (k_of c) l'), both_false)
+      rw (all_fails (line_grade_fits c sheet i) (n_of c) p b' (le-ltb _ (k_of c) l'), both_false)
 
-  pub grade-more : {v : List ℕ} (p : ℕ) → v ≡ line_vector c sheet i → all_below p (line_grade_fits c sheet i) ≡ true → get_or v p 0 < s.k → all_below (p + 1) (line_grade_fits c sheet i) ≡ true
+  pub grade_more : {v : List ℕ} (p : ℕ) → v ≡ line_vector c sheet i → all_below p (line_grade_fits c sheet i) ≡ true → get_or v p 0 < s.k → all_below (p + 1) (line_grade_fits c sheet i) ≡ true
   unfolding line_grade_fits
-  grade-more p e a l =
+  grade_more p e a l =
       let l' : get_or (line_vector c sheet i) p 0 < k_of c = rw (← h.shaped.k_is, ← e) l in
       all_more (line_grade_fits c sheet i) p a (lt-ltb _ (k_of c) l')
 
-  pub line-good : {q : ℕ} {v : List ℕ} (p : ℕ) → q ≡ line_state c sheet i → q < count → v ≡ line_vector c sheet i → p ≡ length v → all_below p (line_grade_fits c sheet i) ≡ true → true ≡ line_fits c count sheet i
+  pub line_good : {q : ℕ} {v : List ℕ} (p : ℕ) → q ≡ line_state c sheet i → q < count → v ≡ line_vector c sheet i → p ≡ length v → all_below p (line_grade_fits c sheet i) ≡ true → true ≡ line_fits c count sheet i
   unfolding line_fits both
-  line-good p e l ev ep a =
-      let n : p ≡ n_of c = ep ∙ ap length ev ∙ length-vector h ∙ h.shaped.n_is in
+  line_good p e l ev ep a =
+      let n : p ≡ n_of c = ep ∙ ap length ev ∙ length_vector h ∙ h.shaped.n_is in
       rw (lt-ltb (line_state c sheet i) count (rw e at l)) (sym (rw n at a))
 
 -- ---- when a sheet fits
 
 module _ (c : List ℕ) (count : ℕ) (sheet : List ℕ) (lines : ℕ) where
-  pub many-lines : 4096 < lines → false ≡ sheet_fits c count sheet lines
+  pub many_lines : 4096 < lines → false ≡ sheet_fits c count sheet lines
   unfolding sheet_fits both
-  many-lines l = rw (lt-leb lines 4096 l)
+  many_lines l = rw (lt-leb lines 4096 l)
 
-  pub bad-line : (i : ℕ) → i < lines → line_fits c count sheet i ≡ false → false ≡ sheet_fits c count sheet lines
+  pub bad_line : (i : ℕ) → i < lines → line_fits c count sheet i ≡ false → false ≡ sheet_fits c count sheet lines
   unfolding sheet_fits
-  bad-line i l e = rw (all-fails (line_fits c count sheet) lines i l e, both_false)
+  bad_line i l e = rw (all_fails (line_fits c count sheet) lines i l e, both_false)
 
 module _ {c : List ℕ} {s : Shape} (h : Shaped c s) (count : ℕ) (sheet : List ℕ) (lines : ℕ) where
-  pub short-sheet : lines ≤ 4096 → length sheet < lines * (2 + s.n) → false ≡ sheet_fits c count sheet lines
+  pub short_sheet : lines ≤ 4096 → length sheet < lines * (2 + s.n) → false ≡ sheet_fits c count sheet lines
   unfolding sheet_fits both
-  short-sheet a l = rw (le-leb lines 4096 a, lt-leb (lines * (2 + n_of c)) (length sheet) (rw h.n_is at l))
+  short_sheet a l = rw (le-leb lines 4096 a, lt-leb (lines * (2 + n_of c)) (length sheet) (rw h.n_is at l))
 
-  pub sheet-good : (i : ℕ) → lines ≤ 4096 → lines * (2 + s.n) ≤ length sheet → i ≡ lines → all_below i (line_fits c count sheet) ≡ true → true ≡ sheet_fits c count sheet lines
+  pub sheet_good : (i : ℕ) → lines ≤ 4096 → lines * (2 + s.n) ≤ length sheet → i ≡ lines → all_below i (line_fits c count sheet) ≡ true → true ≡ sheet_fits c count sheet lines
   unfolding sheet_fits both
-  sheet-good i a l q e = rw (le-leb lines 4096 a, le-leb (lines * (2 + n_of c)) (length sheet) (rw h.n_is at l)) (sym (rw q at e))
+  sheet_good i a l q e = rw (le-leb lines 4096 a, le-leb (lines * (2 + n_of c)) (length sheet) (rw h.n_is at l)) (sym (rw q at e))
 
 -- a line of a sheet whose bytes are there
 pub line_in : {c : List ℕ} {s : Shape} {sheet : List ℕ} {lines i : ℕ} → LinesIn c s sheet lines → i < lines → LineIn c s sheet i

@@ -1,4 +1,6 @@
 // Inner: reading a sheet's lines, and whether they fit. Some have a `requires`, so only proved code may call them.
+#![tactic(auto)]
+
 ghost use Rattle.std.specs.Prelude.{◌≡◌};
 ghost use Rattle.paper.specs.Sheets.{line_at, line_state, line_vector, line_fits, sheet_fits};
 ghost use Rattle.cells.specs.Shaped.{Shaped};

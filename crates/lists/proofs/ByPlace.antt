@@ -15,30 +15,30 @@ use Rattle.lists.proofs.Tests.{below_suc, not_both}
 
 -- ---- tabulate
 
-pub length-tabulate {ℓ} : {X : Type ℓ} (n : ℕ) (f : ℕ → X) → length (tabulate n f) ≡ n
+pub length_tabulate {ℓ} : {X : Type ℓ} (n : ℕ) (f : ℕ → X) → length (tabulate n f) ≡ n
 unfolding tabulate
-length-tabulate zero f = refl
-length-tabulate (suc n) f = length-append (tabulate n f) (f n ∷ []) ∙ omega (arith, length-tabulate n f)
+length_tabulate zero f = refl
+length_tabulate (suc n) f = length-append (tabulate n f) (f n ∷ []) ∙ omega (arith, length_tabulate n f)
 
-pub get_d_tabulate {ℓ} : {X : Type ℓ} (n : ℕ) (f : ℕ → X) (d : X) (i : ℕ) → i < n → get_or (tabulate n f) i d ≡ f i
+pub get_or_tabulate {ℓ} : {X : Type ℓ} (n : ℕ) (f : ℕ → X) (d : X) (i : ℕ) → i < n → get_or (tabulate n f) i d ≡ f i
 unfolding tabulate
-get_d_tabulate zero f d i h = absurd (not-suc-le-zero h)
-get_d_tabulate (suc n) f d i h =
+get_or_tabulate zero f d i h = absurd (not-suc-le-zero h)
+get_or_tabulate (suc n) f d i h =
     below_suc {P = λ j. get_or (tabulate n f ++ (f n ∷ [])) j d ≡ f j} n
-    (λ j l. get_or-append (tabulate n f) (f n ∷ []) d j (rw length-tabulate l) ∙ get_d_tabulate n f d j l)
-    (get_or_at (tabulate n f) (f n) [] d n (length-tabulate n f)) i h
+    (λ j l. get_or-append (tabulate n f) (f n ∷ []) d j (rw length_tabulate l) ∙ get_or_tabulate n f d j l)
+    (get_or_at (tabulate n f) (f n) [] d n (length_tabulate n f)) i h
 
 -- equal values make one list
-pub tabulate-cong {ℓ} : {X : Type ℓ} (n : ℕ) (f g : ℕ → X) → ((i : ℕ) → i < n → f i ≡ g i) → tabulate n f ≡ tabulate n g
+pub tabulate_cong {ℓ} : {X : Type ℓ} (n : ℕ) (f g : ℕ → X) → ((i : ℕ) → i < n → f i ≡ g i) → tabulate n f ≡ tabulate n g
 unfolding tabulate
-tabulate-cong zero f g h = refl
-tabulate-cong (suc n) f g h = ap₂ (λ l x. l ++ (x ∷ [])) (tabulate-cong n f g (λ i l. h i (omega arith))) (h n (omega arith))
+tabulate_cong zero f g h = refl
+tabulate_cong (suc n) f g h = ap₂ (λ l x. l ++ (x ∷ [])) (tabulate_cong n f g (λ i l. h i (omega arith))) (h n (omega arith))
 
 -- a list is the table of its own elements
-pub tabulate-getD {ℓ} : {X : Type ℓ} (n : ℕ) (l : List X) (d : X) → length l ≡ n → tabulate n (λ i. get_or l i d) ≡ l
-tabulate-getD n l d e =
-    ext_get_or d (tabulate n (λ i. get_or l i d)) l (length-tabulate n (λ i. get_or l i d) ∙ sym e)
-    (λ i h. get_d_tabulate n (λ i. get_or l i d) d i (rw length-tabulate at h))
+pub tabulate_get_or {ℓ} : {X : Type ℓ} (n : ℕ) (l : List X) (d : X) → length l ≡ n → tabulate n (λ i. get_or l i d) ≡ l
+tabulate_get_or n l d e =
+    ext_get_or d (tabulate n (λ i. get_or l i d)) l (length_tabulate n (λ i. get_or l i d) ∙ sym e)
+    (λ i h. get_or_tabulate n (λ i. get_or l i d) d i (rw length_tabulate at h))
 
 -- ---- same_list
 
@@ -74,41 +74,41 @@ same_not a b f = go (same_list a b) refl
 
 -- ---- joined: lists of w elements one after the other
 
-pub length-joined {ℓ} : {X : Type ℓ} (n w : ℕ) (f : ℕ → List X) → ((i : ℕ) → i < n → length (f i) ≡ w) → length (joined n f) ≡ n * w
+pub length_joined {ℓ} : {X : Type ℓ} (n w : ℕ) (f : ℕ → List X) → ((i : ℕ) → i < n → length (f i) ≡ w) → length (joined n f) ≡ n * w
 unfolding joined
-length-joined zero w f h = sym (zero-mul w)
-length-joined (suc n) w f h =
-    length-append (joined n f) (f n) ∙ omega (arith, length-joined n w f (λ i l. h i (omega arith)), h n (omega arith), suc-mul n w)
+length_joined zero w f h = sym (zero-mul w)
+length_joined (suc n) w f h =
+    length-append (joined n f) (f n) ∙ omega (arith, length_joined n w f (λ i l. h i (omega arith)), h n (omega arith), suc-mul n w)
 
-pub getD-joined {ℓ} : {X : Type ℓ} (n w : ℕ) (f : ℕ → List X) (d : X) → ((i : ℕ) → i < n → length (f i) ≡ w) →
+pub get_or_joined {ℓ} : {X : Type ℓ} (n w : ℕ) (f : ℕ → List X) (d : X) → ((i : ℕ) → i < n → length (f i) ≡ w) →
     (i j : ℕ) → i < n → j < w → get_or (joined n f) (i * w + j) d ≡ get_or (f i) j d
 unfolding joined
-getD-joined zero w f d h i j p q = absurd (not-suc-le-zero p)
-getD-joined (suc n) w f d h i j p q =
+get_or_joined zero w f d h i j p q = absurd (not-suc-le-zero p)
+get_or_joined (suc n) w f d h i j p q =
     below_suc {P = λ k. get_or (joined n f ++ f n) (k * w + j) d ≡ get_or (f k) j d} n
-    (λ k l. get_or-append (joined n f) (f n) d (k * w + j) (omega (arith, len, mul-le-mul_right w l)) ∙ getD-joined n w f d (λ i l. h i (omega arith)) k j l q)
+    (λ k l. get_or-append (joined n f) (f n) d (k * w + j) (omega (arith, len, mul-le-mul_right w l)) ∙ get_or_joined n w f d (λ i l. h i (omega arith)) k j l q)
     (subst (λ (k : ℕ). get_or (joined n f ++ f n) (k + j) d ≡ get_or (f n) j d) len (get_or-append-add (joined n f) (f n) j d)) i p
   where
     len : length (joined n f) ≡ n * w
-    len = length-joined n w f (λ i l. h i (omega arith))
+    len = length_joined n w f (λ i l. h i (omega arith))
 
-pub joined-cong {ℓ} : {X : Type ℓ} (n : ℕ) (f g : ℕ → List X) → ((i : ℕ) → i < n → f i ≡ g i) → joined n f ≡ joined n g
+pub joined_cong {ℓ} : {X : Type ℓ} (n : ℕ) (f g : ℕ → List X) → ((i : ℕ) → i < n → f i ≡ g i) → joined n f ≡ joined n g
 unfolding joined
-joined-cong zero f g h = refl
-joined-cong (suc n) f g h = ap₂ (λ l r. l ++ r) (joined-cong n f g (λ i l. h i (omega arith))) (h n (omega arith))
+joined_cong zero f g h = refl
+joined_cong (suc n) f g h = ap₂ (λ l r. l ++ r) (joined_cong n f g (λ i l. h i (omega arith))) (h n (omega arith))
 
 -- the parts of equal lists of lists are equal, and so is what stands behind them
 module _ {ℓ} {X : Type ℓ} (d : X) (n w : ℕ) (f g : ℕ → List X) (hf : (i : ℕ) → i < n → length (f i) ≡ w) (hg : (i : ℕ) → i < n → length (g i) ≡ w) where
-  pub joined-parts : (s t : List X) → joined n f ++ s ≡ joined n g ++ t → (i : ℕ) → i < n → f i ≡ g i
-  joined-parts s t e i h = ext_get_or d (f i) (g i) (hf i h ∙ sym (hg i h)) (λ j l. at j (rw (hf i h) at l))
+  pub joined_parts : (s t : List X) → joined n f ++ s ≡ joined n g ++ t → (i : ℕ) → i < n → f i ≡ g i
+  joined_parts s t e i h = ext_get_or d (f i) (g i) (hf i h ∙ sym (hg i h)) (λ j l. at j (rw (hf i h) at l))
     where
       at : (j : ℕ) → j < w → get_or (f i) j d ≡ get_or (g i) j d
       at j l =
-          sym (getD-joined n w f d hf i j h l)
-          ∙ sym (get_or-append (joined n f) s d (i * w + j) (rw (length-joined n w f hf) (digits_lt h l)))
+          sym (get_or_joined n w f d hf i j h l)
+          ∙ sym (get_or-append (joined n f) s d (i * w + j) (rw (length_joined n w f hf) (digits_lt h l)))
           ∙ ap (λ r. get_or r (i * w + j) d) e
-          ∙ get_or-append (joined n g) t d (i * w + j) (rw (length-joined n w g hg) (digits_lt h l))
-          ∙ getD-joined n w g d hg i j h l
+          ∙ get_or-append (joined n g) t d (i * w + j) (rw (length_joined n w g hg) (digits_lt h l))
+          ∙ get_or_joined n w g d hg i j h l
 
 -- ---- part
 
@@ -116,21 +116,21 @@ pub length_part {ℓ} : {X : Type ℓ} (w s : ℕ) (xs : List X) → suc s * w �
 unfolding part
 length_part w s xs h = simp (length-take, length-drop) (omega (arith, suc-mul s w))
 
-pub get_d_part {ℓ} : {X : Type ℓ} (w s : ℕ) (xs : List X) (d : X) (i : ℕ) → i < w → get_or (part w s xs) i d ≡ get_or xs (s * w + i) d
+pub get_or_part {ℓ} : {X : Type ℓ} (w s : ℕ) (xs : List X) (d : X) (i : ℕ) → i < w → get_or (part w s xs) i d ≡ get_or xs (s * w + i) d
 unfolding part
-get_d_part w s xs d i h = rw (get_or-take, get_or-drop)
+get_or_part w s xs d i h = rw (get_or-take, get_or-drop)
 
 -- part i of lists of w elements one after the other, with more behind them
-pub part-joined {ℓ} : {X : Type ℓ} (d : X) (n w : ℕ) (f : ℕ → List X) (more : List X) → ((i : ℕ) → i < n → length (f i) ≡ w) →
+pub part_joined {ℓ} : {X : Type ℓ} (d : X) (n w : ℕ) (f : ℕ → List X) (more : List X) → ((i : ℕ) → i < n → length (f i) ≡ w) →
     (i : ℕ) → i < n → part w i (joined n f ++ more) ≡ f i
-part-joined d n w f more h i l =
+part_joined d n w f more h i l =
     ext_get_or d (part w i (joined n f ++ more)) (f i) (size ∙ sym (h i l)) (λ j b. at j (rw size at b))
   where
     size : length (part w i (joined n f ++ more)) ≡ w
-    size = length_part w i (joined n f ++ more) (omega (arith, length-append (joined n f) more, length-joined n w f h, mul-le-mul_right w l))
+    size = length_part w i (joined n f ++ more) (omega (arith, length-append (joined n f) more, length_joined n w f h, mul-le-mul_right w l))
 
     at : (j : ℕ) → j < w → get_or (part w i (joined n f ++ more)) j d ≡ get_or (f i) j d
     at j b =
-        get_d_part w i (joined n f ++ more) d j b
-        ∙ get_or-append (joined n f) more d (i * w + j) (rw (length-joined n w f h) (digits_lt l b))
-        ∙ getD-joined n w f d h i j l b
+        get_or_part w i (joined n f ++ more) d j b
+        ∙ get_or-append (joined n f) more d (i * w + j) (rw (length_joined n w f h) (digits_lt l b))
+        ∙ get_or_joined n w f d h i j l b

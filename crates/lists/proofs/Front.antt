@@ -1,6 +1,6 @@
 -- A buffer that is written from its front on, one element after the other or one list after the other. Assumes nothing.
 use mathlib.Core.Path.{◌≡◌, refl, sym, ap, ◌∙◌}
-use mathlib.Core.Bool.{Bool, false, not}
+use mathlib.Core.Bool.{Bool, true}
 use mathlib.Core.List.{List, ◌++◌, append_assoc, append-nil}
 use Prim.Native.Nat.{ℕ, suc, ◌+◌, ◌-◌, ◌≤◌, ◌<◌}
 use native.Mathlib.Nat.{le_refl}
@@ -9,7 +9,6 @@ use native.Mathlib.Omega.{arith}
 use lib.ListN.{length, get_or, take, drop, set, length-append, length-drop, drop_of_length-le}
 use lib.Seq.{take-suc, drop-cons, drop-append-add, drop-drop, set_at, take_all, take-length, take_at, drop_at, length-take-le, append_snoc}
 use borrow.Rule.Slice.PartMut.{mid_of, put_mid}
-use borrow.Author.Tests.{not-false}
 use Rattle.paper.specs.Lists.{pick, in_front}
 use Rattle.lists.proofs.Tests.{pick_true}
 
@@ -56,5 +55,5 @@ front_front new first old h =
     ∙ ap (λ (i : ℕ). drop i old) (sym n))
 
 -- a buffer that a call wrote where its test held
-pub picked : (r : Bool) (buf new old : List ℕ) → buf ≡ pick r new old → not r ≡ false → buf ≡ new
-picked r buf new old e h = e ∙ pick_true r new old (not-false r h)
+pub picked : (r : Bool) (buf new old : List ℕ) → buf ≡ pick r new old → r ≡ true → buf ≡ new
+picked r buf new old e h = e ∙ pick_true r new old h

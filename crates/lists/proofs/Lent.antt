@@ -9,7 +9,7 @@ use native.Mathlib.Decide.{dec_lt}
 use lib.Seq.{ext_get_or, set_at, drop-cons, get_or-drop, get_or-append-add}
 use borrow.Author.Fill.{fill_more}
 use Rattle.paper.specs.Lists.{tabulate, in_front, zeros}
-use Rattle.lists.proofs.ByPlace.{length-tabulate, get_d_tabulate}
+use Rattle.lists.proofs.ByPlace.{length_tabulate, get_or_tabulate}
 
 -- ---- at the front
 
@@ -31,7 +31,7 @@ in_front_next new old a h = rw (drop-cons old (length new) 0, set_at new _ _ a (
 pub in_front_tabulate : (f : ℕ → ℕ) (old : List ℕ) (i : ℕ) {out : List ℕ} {a : ℕ} → i < length old → out ≡ in_front (tabulate i f) old → a ≡ f i →
     set out i a ≡ in_front (tabulate (i + 1) f) old
 unfolding tabulate
-in_front_tabulate f old i h o e = rw (o, e, add-one, ← in_front_next (tabulate i f) old (f i) (rw length-tabulate h), length-tabulate)
+in_front_tabulate f old i h o e = rw (o, e, add-one, ← in_front_next (tabulate i f) old (f i) (rw length_tabulate h), length_tabulate)
 
 -- what stands there: the new bytes, and behind them the old ones
 pub get_or_in_front : (new old : List ℕ) (i : ℕ) → i < length new → get_or (in_front new old) i 0 ≡ get_or new i 0
@@ -51,12 +51,12 @@ front_is n old f h e =
     0
     old
     (in_front (tabulate n f) old)
-    (sym (length_in_front (tabulate n f) old (rw length-tabulate h)))
+    (sym (length_in_front (tabulate n f) old (rw length_tabulate h)))
     (λ i l. at i (dec_lt i n))
   where
     at : (i : ℕ) → Dec (i < n) → get_or old i 0 ≡ get_or (in_front (tabulate n f) old) i 0
-    at i (yes l) = e i l ∙ sym (get_or_in_front (tabulate n f) old i (rw length-tabulate l) ∙ get_d_tabulate n f 0 i l)
-    at i (no l) = sym (get_or_behind (tabulate n f) old i (rw length-tabulate (omega arith)))
+    at i (yes l) = e i l ∙ sym (get_or_in_front (tabulate n f) old i (rw length_tabulate l) ∙ get_or_tabulate n f 0 i l)
+    at i (no l) = sym (get_or_behind (tabulate n f) old i (rw length_tabulate (omega arith)))
 
 -- ---- zeros
 

@@ -1,13 +1,13 @@
 -- Choosing, and tests over numbers: what the definitions of Lists say, as facts. Assumes nothing.
 use mathlib.Core.Path.{◌≡◌, refl, sym, ◌∙◌, subst}
-use mathlib.Core.Bool.{Bool, true, false, not, false≢true}
+use mathlib.Core.Bool.{Bool, true, false, false≢true}
 use mathlib.Core.Logic.{◌⊎◌, inl, inr}
 use Prim.Native.Nat.{ℕ, zero, suc, ◌+◌, ◌≤◌, ◌<◌}
 use native.Mathlib.Nat.{eq-or-lt_of_le, not-suc-le-zero, le_of_suc-le-suc}
 use native.Mathlib.Numerals.{add-one}
 use native.Mathlib.Omega.{arith}
 use lib.Dec.{eqb}
-use borrow.Author.Tests.{eqb-true, eqb-false, not-true, not-false}
+use borrow.Author.Tests.{eqb-true, eqb-false}
 use Rattle.paper.specs.Lists.{pick, unless, both, all_below, fail_after, least_fail}
 
 -- ---- choosing
@@ -19,30 +19,30 @@ pub pick_true {ℓ} : {X : Type ℓ} (b : Bool) (x y : X) → b ≡ true → pic
 pick_true true x y e = refl
 pick_true false x y e = absurd (false≢true e)
 
-pub pick-false {ℓ} : {X : Type ℓ} (b : Bool) (x y : X) → b ≡ false → pick b x y ≡ y
-pick-false true x y e = absurd (false≢true (sym e))
-pick-false false x y e = refl
+pub pick_false {ℓ} : {X : Type ℓ} (b : Bool) (x y : X) → b ≡ false → pick b x y ≡ y
+pick_false true x y e = absurd (false≢true (sym e))
+pick_false false x y e = refl
 
 -- what holds of the one where the test passes, and of the other where it fails, holds of the choice
-pub pick-case {ℓ κ} : {X : Type ℓ} (P : X → Type κ) (b : Bool) (x y : X) → (b ≡ true → P x) → (b ≡ false → P y) → P (pick b x y)
-pick-case P true x y f g = f refl
-pick-case P false x y f g = g refl
+pub pick_case {ℓ κ} : {X : Type ℓ} (P : X → Type κ) (b : Bool) (x y : X) → (b ≡ true → P x) → (b ≡ false → P y) → P (pick b x y)
+pick_case P true x y f g = f refl
+pick_case P false x y f g = g refl
 
 -- an answer of which something holds that does not hold of the refusal, where the test failed: it passed, and that holds of the rest
-pub unless-told {ℓ κ} : {X : Type ℓ} (P : X → Type κ) (b : Bool) (x y : X) → (b ≡ false → P x → ⊥) → P (unless b x y) → (b ≡ true) × P y
-unless-told P true x y f p = (refl, p)
-unless-told P false x y f p = absurd (f refl p)
+pub unless_told {ℓ κ} : {X : Type ℓ} (P : X → Type κ) (b : Bool) (x y : X) → (b ≡ false → P x → ⊥) → P (unless b x y) → (b ≡ true) × P y
+unless_told P true x y f p = (refl, p)
+unless_told P false x y f p = absurd (f refl p)
 
 -- the same, where it never holds of the refusal
-pub unless-passed {ℓ κ} : {X : Type ℓ} (P : X → Type κ) (b : Bool) (x y : X) → (P x → ⊥) → P (unless b x y) → (b ≡ true) × P y
-unless-passed P b x y f = unless-told P b x y (λ e. f)
+pub unless_passed {ℓ κ} : {X : Type ℓ} (P : X → Type κ) (b : Bool) (x y : X) → (P x → ⊥) → P (unless b x y) → (b ≡ true) × P y
+unless_passed P b x y f = unless_told P b x y (λ e. f)
 
--- what a called test tells, where the code goes by its negation
-pub fell : {t a : Bool} → t ≡ a → not t ≡ true → a ≡ false
-fell {t} e h = sym e ∙ not-true t h
+-- what a called test tells, where the code goes by its answer
+pub fell : {t a : Bool} → t ≡ a → t ≡ false → a ≡ false
+fell e h = sym e ∙ h
 
-pub held : {t a : Bool} → t ≡ a → not t ≡ false → a ≡ true
-held {t} e h = sym e ∙ not-false t h
+pub held : {t a : Bool} → t ≡ a → t ≡ true → a ≡ true
+held e h = sym e ∙ h
 
 -- ---- two tests
 
@@ -90,27 +90,27 @@ below_suc {P} n f p i h = go (eq-or-lt_of_le (le_of_suc-le-suc h))
     go (inr l) = f i l
 
 module _ (test : ℕ → Bool) where
-  pub all-at : (n : ℕ) → all_below n test ≡ true → (i : ℕ) → i < n → test i ≡ true
+  pub all_at : (n : ℕ) → all_below n test ≡ true → (i : ℕ) → i < n → test i ≡ true
   unfolding all_below
-  all-at zero e i h = absurd (not-suc-le-zero h)
-  all-at (suc n) e i h =
-      below_suc {P = λ j. test j ≡ true} n (all-at n (both_left (all_below n test) (test n) e)) (both_right (all_below n test) (test n) e) i h
+  all_at zero e i h = absurd (not-suc-le-zero h)
+  all_at (suc n) e i h =
+      below_suc {P = λ j. test j ≡ true} n (all_at n (both_left (all_below n test) (test n) e)) (both_right (all_below n test) (test n) e) i h
 
-  pub all-by : (n : ℕ) → ((i : ℕ) → i < n → test i ≡ true) → all_below n test ≡ true
+  pub all_by : (n : ℕ) → ((i : ℕ) → i < n → test i ≡ true) → all_below n test ≡ true
   unfolding all_below
-  all-by zero f = refl
-  all-by (suc n) f = both_true (all_below n test) (test n) (all-by n (λ i h. f i (omega arith))) (f n (omega arith))
+  all_by zero f = refl
+  all_by (suc n) f = both_true (all_below n test) (test n) (all_by n (λ i h. f i (omega arith))) (f n (omega arith))
 
   -- one more, as a loop counts
   pub all_more : (n : ℕ) → all_below n test ≡ true → test n ≡ true → all_below (n + 1) test ≡ true
   unfolding all_below
   all_more n e p = rw add-one (both_true (all_below n test) (test n) e p)
 
-  pub all-fails : (n i : ℕ) → i < n → test i ≡ false → all_below n test ≡ false
-  all-fails n i h e = go (all_below n test) refl
+  pub all_fails : (n i : ℕ) → i < n → test i ≡ false → all_below n test ≡ false
+  all_fails n i h e = go (all_below n test) refl
     where
       go : (b : Bool) → all_below n test ≡ b → b ≡ false
-      go true q = absurd (not_both (all-at n q i h) e)
+      go true q = absurd (not_both (all_at n q i h) e)
       go false q = refl
 
 -- i is the least number below n at which the test fails, or n
@@ -150,20 +150,20 @@ module _ (test : ℕ → Bool) where
           lt (inr q) = q
 
   -- there is only one
-  pub least-one : (n i j : ℕ) → Least n test i → Least n test j → i ≡ j
-  least-one n i j p q = go (native.Mathlib.Decide.dec_lt i j) (native.Mathlib.Decide.dec_lt j i)
+  pub least_one : (n i j : ℕ) → Least n test i → Least n test j → i ≡ j
+  least_one n i j p q = go (native.Mathlib.Decide.dec_lt i j) (native.Mathlib.Decide.dec_lt j i)
     where
       go : Dec (i < j) → Dec (j < i) → i ≡ j
       go (yes h) d = absurd (not_both (q.before i h) (p.fails (omega (arith, q.top))))
       go (no h) (yes l) = absurd (not_both (p.before j l) (q.fails (omega (arith, p.top))))
       go (no h) (no l) = omega arith
 
-  pub least-is : (n i : ℕ) → i < n → ((j : ℕ) → j < i → test j ≡ true) → test i ≡ false → least_fail n test ≡ i
-  least-is n i h f e = least-one n (least_fail n test) i (least n) (record { top = omega arith; before = f; fails = λ _. e })
+  pub least_is : (n i : ℕ) → i < n → ((j : ℕ) → j < i → test j ≡ true) → test i ≡ false → least_fail n test ≡ i
+  least_is n i h f e = least_one n (least_fail n test) i (least n) (record { top = omega arith; before = f; fails = λ _. e })
 
   -- it is n exactly where every test below n passes
-  pub least-all : (n : ℕ) → n ≤ least_fail n test → (i : ℕ) → i < n → test i ≡ true
-  least-all n e i h = (least n).before i (omega arith)
+  pub least_all : (n : ℕ) → n ≤ least_fail n test → (i : ℕ) → i < n → test i ≡ true
+  least_all n e i h = (least n).before i (omega arith)
 
-  pub least-none : (n : ℕ) → ((i : ℕ) → i < n → test i ≡ true) → least_fail n test ≡ n
-  least-none n f = least-one n (least_fail n test) n (least n) (record { top = omega arith; before = f; fails = λ h. absurd (omega arith) })
+  pub least_none : (n : ℕ) → ((i : ℕ) → i < n → test i ≡ true) → least_fail n test ≡ n
+  least_none n f = least_one n (least_fail n test) n (least n) (record { top = omega arith; before = f; fails = λ h. absurd (omega arith) })

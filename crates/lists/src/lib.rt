@@ -1,4 +1,6 @@
 // Lists by place: the laws of `paper`'s definitions are in proofs/, and here is what fills lent memory.
+#![tactic(auto)]
+
 ghost use Rattle.std.specs.Prelude.{◌≡◌};
 ghost use Rattle.paper.specs.Lists.{zeros};
 

@@ -1,4 +1,6 @@
 // The table that each program prints, built with the programs' rooms in memory of zeros.
+#![tactic(auto)]
+
 ghost use Rattle.std.specs.Prelude.{◌≡◌};
 ghost use Rattle.replies.specs.Replies.{built_said};
 ghost use Rattle.paper.specs.Builders.{blank_table, blank_vectors};

@@ -11,33 +11,33 @@ use lib.ListN.{length, get_or, set, replicate, length-set, length-replicate, get
 use lib.Seq.{get_or-set_same, get_or-set_other}
 use lib.Dec.{eqb}
 use borrow.Author.Tests.{eqb-true, eqb-false}
-use Rattle.lists.proofs.Tests.{pick-case, below_suc}
+use Rattle.lists.proofs.Tests.{pick_case, below_suc}
 use Rattle.marks.specs.Chains.{buckets, bucket_of, last_in, Chained}
 
 -- ---- the last place of a bucket
 
 module _ (marks : List ℕ) (h : ℕ) where
-  pub last-low : (n : ℕ) → last_in marks h n ≤ n
+  pub last_low : (n : ℕ) → last_in marks h n ≤ n
   unfolding last_in
-  last-low zero = le_refl 0
-  last-low (suc n) =
-      pick-case (λ (p : ℕ). p ≤ suc n) (eqb (bucket_of (get_or marks n 0)) h) (suc n) (last_in marks h n)
-      (λ _. le_refl (suc n)) (λ _. omega (arith, last-low n))
+  last_low zero = le_refl 0
+  last_low (suc n) =
+      pick_case (λ (p : ℕ). p ≤ suc n) (eqb (bucket_of (get_or marks n 0)) h) (suc n) (last_in marks h n)
+      (λ _. le_refl (suc n)) (λ _. omega (arith, last_low n))
 
   -- it is in the bucket
-  pub last-own : (n s : ℕ) → suc s ≡ last_in marks h n → bucket_of (get_or marks s 0) ≡ h
+  pub last_own : (n s : ℕ) → suc s ≡ last_in marks h n → bucket_of (get_or marks s 0) ≡ h
   unfolding last_in
-  last-own zero s = λ e. absurd (omega arith)
-  last-own (suc n) s =
-      pick-case (λ (p : ℕ). suc s ≡ p → bucket_of (get_or marks s 0) ≡ h) (eqb (bucket_of (get_or marks n 0)) h) (suc n) (last_in marks h n)
-      (λ q e. let i : s ≡ n = omega arith in rw i (eqb-true (bucket_of (get_or marks n 0)) h q)) (λ _. last-own n s)
+  last_own zero s = λ e. absurd (omega arith)
+  last_own (suc n) s =
+      pick_case (λ (p : ℕ). suc s ≡ p → bucket_of (get_or marks s 0) ≡ h) (eqb (bucket_of (get_or marks n 0)) h) (suc n) (last_in marks h n)
+      (λ q e. let i : s ≡ n = omega arith in rw i (eqb-true (bucket_of (get_or marks n 0)) h q)) (λ _. last_own n s)
 
   -- and none past it is
   pub last_none : (n t : ℕ) → last_in marks h n ≤ t → t < n → bucket_of (get_or marks t 0) ≡ h → ⊥
   unfolding last_in
   last_none zero t = λ l b. absurd (omega arith)
   last_none (suc n) t =
-      pick-case (λ (p : ℕ). p ≤ t → t < suc n → bucket_of (get_or marks t 0) ≡ h → ⊥) (eqb (bucket_of (get_or marks n 0)) h) (suc n) (last_in marks h n)
+      pick_case (λ (p : ℕ). p ≤ t → t < suc n → bucket_of (get_or marks t 0) ≡ h → ⊥) (eqb (bucket_of (get_or marks n 0)) h) (suc n) (last_in marks h n)
       (λ _ l b. absurd (omega arith))
       (λ q l b.
       below_suc {P = λ j. last_in marks h n ≤ j → bucket_of (get_or marks j 0) ≡ h → ⊥} n (λ j b l. last_none n j l b) (λ _. eqb-false (bucket_of (get_or marks n 0)) h q) t b l)
@@ -60,39 +60,39 @@ abbrev pub NoneFrom : (ℕ → Type 0) → ℕ → ℕ → Type 0
 NoneFrom Q p top = (t : ℕ) → p ≤ t → t < top → Q t → ⊥
 
 module _ {heads links marks : List ℕ} {held : ℕ} (k : Chained heads links marks held) (number : ℕ) where
-  head-last : {p : ℕ} → p ≡ get_or heads (bucket_of number) 0 → p ≡ last_in marks (bucket_of number) held
-  head-last e = e ∙ k.head_is (bucket_of number) (omega arith)
+  head_last : {p : ℕ} → p ≡ get_or heads (bucket_of number) 0 → p ≡ last_in marks (bucket_of number) held
+  head_last e = e ∙ k.head_is (bucket_of number) (omega arith)
 
   -- where it starts
-  pub start-on : {p : ℕ} → p ≡ get_or heads (bucket_of number) 0 → OnChain marks held number p
-  start-on e =
-      let q = head-last e in
-      record { low = rw q (last-low marks (bucket_of number) held); own = λ s f. last-own marks (bucket_of number) held s (f ∙ q) }
+  pub start_on : {p : ℕ} → p ≡ get_or heads (bucket_of number) 0 → OnChain marks held number p
+  start_on e =
+      let q = head_last e in
+      record { low = rw q (last_low marks (bucket_of number) held); own = λ s f. last_own marks (bucket_of number) held s (f ∙ q) }
 
-  link-last : {p s q : ℕ} → OnChain marks held number p → suc s ≡ p → q ≡ get_or links s 0 → q ≡ last_in marks (bucket_of number) s
-  link-last {s = s} o f e = e ∙ k.link_is s (omega (arith, o.low)) ∙ ap (λ (h : ℕ). last_in marks h s) (o.own s f)
+  link_last : {p s q : ℕ} → OnChain marks held number p → suc s ≡ p → q ≡ get_or links s 0 → q ≡ last_in marks (bucket_of number) s
+  link_last {s = s} o f e = e ∙ k.link_is s (omega (arith, o.low)) ∙ ap (λ (h : ℕ). last_in marks h s) (o.own s f)
 
   -- where it goes on: further down
-  pub next-on : {p s q : ℕ} → OnChain marks held number p → suc s ≡ p → q ≡ get_or links s 0 → OnChain marks held number q
-  next-on {s = s} o f e =
-      let q = link-last o f e in
-      record { low = rw q (omega (arith, last-low marks (bucket_of number) s, o.low)); own = λ r g. last-own marks (bucket_of number) s r (g ∙ q) }
+  pub next_on : {p s q : ℕ} → OnChain marks held number p → suc s ≡ p → q ≡ get_or links s 0 → OnChain marks held number q
+  next_on {s = s} o f e =
+      let q = link_last o f e in
+      record { low = rw q (omega (arith, last_low marks (bucket_of number) s, o.low)); own = λ r g. last_own marks (bucket_of number) s r (g ∙ q) }
 
   pub next_low : {p s q : ℕ} → OnChain marks held number p → suc s ≡ p → q ≡ get_or links s 0 → q ≤ s
-  next_low {s = s} o f e = rw (link-last o f e) (last-low marks (bucket_of number) s)
+  next_low {s = s} o f e = rw (link_last o f e) (last_low marks (bucket_of number) s)
 
   -- it passes over no place that has what only places with the number have
   module _ (Q : ℕ → Type 0) (numbered : (t : ℕ) → t < held → Q t → get_or marks t 0 ≡ number) where
-    pub none-start : {p : ℕ} → p ≡ get_or heads (bucket_of number) 0 → NoneFrom Q p held
-    none-start e t l b q =
-        last_none marks (bucket_of number) held t (rw (← head-last e) l) b (ap bucket_of (numbered t b q))
+    pub none_start : {p : ℕ} → p ≡ get_or heads (bucket_of number) 0 → NoneFrom Q p held
+    none_start e t l b q =
+        last_none marks (bucket_of number) held t (rw (← head_last e) l) b (ap bucket_of (numbered t b q))
 
     -- a place that has it and is not below top need not be told apart
-    pub none-next : {p s q top : ℕ} → OnChain marks held number p → suc s ≡ p → q ≡ get_or links s 0 → NoneFrom Q p top → (s < top → Q s → ⊥) → NoneFrom Q q top
-    none-next {p} {s} {q} o f e past here t l b h = go (dec_lt t s) (dec_lt s t)
+    pub none_next : {p s q top : ℕ} → OnChain marks held number p → suc s ≡ p → q ≡ get_or links s 0 → NoneFrom Q p top → (s < top → Q s → ⊥) → NoneFrom Q q top
+    none_next {p} {s} {q} o f e past here t l b h = go (dec_lt t s) (dec_lt s t)
       where
         go : Dec (t < s) → Dec (s < t) → ⊥
-        go (yes i) j = last_none marks (bucket_of number) s t (rw (← link-last o f e) l) i (ap bucket_of (numbered t (omega (arith, o.low)) h))
+        go (yes i) j = last_none marks (bucket_of number) s t (rw (← link_last o f e) l) i (ap bucket_of (numbered t (omega (arith, o.low)) h))
         go (no i) (yes j) = past t (omega arith) b h
         go (no i) (no j) = let e : t ≡ s = omega arith in here (rw e at b) (rw e at h)
 
@@ -116,16 +116,16 @@ module _ {heads links marks : List ℕ} {held : ℕ} (k : Chained heads links ma
   new : get_or (set marks held number) held 0 ≡ number
   new = get_or-set_same marks held number 0 m
 
-  heads-more : (h : ℕ) → h < buckets → get_or (set heads (bucket_of number) (suc held)) h 0 ≡ last_in (set marks held number) h (suc held)
+  heads_more : (h : ℕ) → h < buckets → get_or (set heads (bucket_of number) (suc held)) h 0 ≡ last_in (set marks held number) h (suc held)
   unfolding last_in
-  heads-more h b =
-      pick-case (λ (p : ℕ). get_or (set heads (bucket_of number) (suc held)) h 0 ≡ p) (eqb (bucket_of (get_or (set marks held number) held 0)) h) (suc held) (last_in (set marks held number) h held)
+  heads_more h b =
+      pick_case (λ (p : ℕ). get_or (set heads (bucket_of number) (suc held)) h 0 ≡ p) (eqb (bucket_of (get_or (set marks held number) held 0)) h) (suc held) (last_in (set marks held number) h held)
       (λ q. let e : bucket_of number ≡ h = ap bucket_of (sym new) ∙ eqb-true _ h q in
       rw e (get_or-set_same heads h (suc held) 0 (rw k.headed b)))
       (λ q. get_or-set_other heads (bucket_of number) h (suc held) 0 (λ e. eqb-false _ h q (ap bucket_of new ∙ sym e)) ∙ k.head_is h b ∙ old h held (le_refl held))
 
-  links-more : (s : ℕ) → s < suc held → get_or (set links held (get_or heads (bucket_of number) 0)) s 0 ≡ last_in (set marks held number) (bucket_of (get_or (set marks held number) s 0)) s
-  links-more =
+  links_more : (s : ℕ) → s < suc held → get_or (set links held (get_or heads (bucket_of number) 0)) s 0 ≡ last_in (set marks held number) (bucket_of (get_or (set marks held number) s 0)) s
+  links_more =
       below_suc {P = λ s. get_or (set links held (get_or heads (bucket_of number) 0)) s 0 ≡ last_in (set marks held number) (bucket_of (get_or (set marks held number) s 0)) s} held
       (λ s b.
       get_or-set_other links held s _ 0 (λ e. omega arith) ∙ k.link_is s b ∙ old _ s (omega arith)
@@ -141,6 +141,6 @@ module _ {heads links marks : List ℕ} {held : ℕ} (k : Chained heads links ma
         headed = length-set heads _ _ ∙ k.headed;
         linked = rw length-set l;
         marked = rw length-set m;
-        head_is = heads-more;
-        link_is = links-more;
+        head_is = heads_more;
+        link_is = links_more;
       })

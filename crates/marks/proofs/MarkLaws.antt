@@ -27,9 +27,9 @@ unmarked a b p q f = sym (same_not a b (λ e. f (p ∙ ap mark_of e ∙ sym q)))
 -- two lists of one length
 module _ (a b : List ℕ) (l : length a ≡ length b) where
   -- all bytes passed are the same
-  pub same-all : (i : ℕ) → ((j : ℕ) → j < i → get_or a j 0 ≡ get_or b j 0) → length a ≤ i → true ≡ same_list a b
-  same-all i e q = sym (same_by a b (ext_get_or 0 a b l (λ j h. e j (omega arith))))
+  pub same_all : (i : ℕ) → ((j : ℕ) → j < i → get_or a j 0 ≡ get_or b j 0) → length a ≤ i → true ≡ same_list a b
+  same_all i e q = sym (same_by a b (ext_get_or 0 a b l (λ j h. e j (omega arith))))
 
   -- one byte is not
-  pub same-fails : (i : ℕ) → (get_or a i 0 ≡ get_or b i 0 → ⊥) → false ≡ same_list a b
-  same-fails i f = sym (same_not a b (λ e. f (ap (λ y. get_or y i 0) e)))
+  pub same_fails : (i : ℕ) → (get_or a i 0 ≡ get_or b i 0 → ⊥) → false ≡ same_list a b
+  same_fails i f = sym (same_not a b (λ e. f (ap (λ y. get_or y i 0) e)))

@@ -1,4 +1,6 @@
 // Numbers of keys, comparing bytes, and an index of kept numbers by buckets.
+#![tactic(auto)]
+
 pub mod chains;
 
 ghost use Rattle.std.specs.Prelude.{◌≡◌, length};

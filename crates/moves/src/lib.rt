@@ -1,4 +1,6 @@
 // The first value of each construction, a letter's step and the grade. Each has a `requires`, so only proved code may call them.
+#![tactic(auto)]
+
 ghost use Rattle.std.specs.Prelude.{◌≡◌, ◌+◌, ◌*◌, ◌≤◌, ◌<◌, length};
 ghost use Rattle.paper.specs.Lists.{in_front};
 ghost use Rattle.kinds.specs.Kinds.{grades_in, next_row, grade_by, made};
@@ -60,6 +62,7 @@ pub fn put_first(plan: Plan, chart: &[u8], reverse: &[u8], out: &mut [u8])
 }
 
 // What letter x makes of the value v, into the front of `out`.
+#[tactic(auto, using(kinds::proofs::KindLaws::product_asks_by))]
 pub fn step_into(plan: Plan, chart: &[u8], reverse: &[u8], x: usize, v: &[u8], out: &mut [u8])
     requires { Ready chart.now reverse.now plan × (x < plan.shape.letters) × Value plan.shape.k plan.width v.now × (plan.width ≤ length out.old) }
     ensures { out.new ≡ in_front ((made plan chart.now reverse.now).step x v.now) out.old }

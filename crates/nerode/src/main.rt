@@ -1,6 +1,9 @@
 // Reads a chart on standard input and prints its Nerode table, or one refusal line.
-use answers::Program;
+#![tactic(auto)]
 
-fn main() {
-    answers::print::run(Program::Nerode);
+use answers::Program;
+use std::io;
+
+fn main(rt: HostRuntime) -> io::Result<()> {
+    answers::print::run(&rt, &mut rt.stdin(), Program::Nerode)
 }

@@ -1,4 +1,6 @@
 // Inner: the pairs that a line asks for, looked up on the sheet. Each has a `requires`, so only proved code may call them.
+#![tactic(auto)]
+
 ghost use Rattle.std.specs.Prelude.{◌≡◌, ◌+◌, ◌≤◌, ◌<◌, length};
 ghost use Rattle.paper.specs.Lists.{in_front};
 ghost use Rattle.paper.specs.Chart.{letters, start_vec};

@@ -9,11 +9,11 @@ use Rattle.paper.specs.Lists.{joined, in_front}
 use Rattle.paper.specs.Tables.{two_bytes, row_size}
 use Rattle.paper.specs.Numbering.{place, expanded}
 use Rattle.paper.specs.Constructions.{Construction}
-use Rattle.lists.proofs.ByPlace.{length-joined}
+use Rattle.lists.proofs.ByPlace.{length_joined}
 use Rattle.lists.proofs.Lent.{in_front_none}
 use Rattle.numbering.proofs.ListLaws.{extends_length}
-use Rattle.numbering.proofs.Kept.{expanded-suc, expanded-more}
-use Rattle.places.proofs.Search.{length-values}
+use Rattle.numbering.proofs.Kept.{expanded_suc, expanded_more}
+use Rattle.places.proofs.Search.{length_values}
 use Rattle.kinds.specs.Kinds.{made}
 use Rattle.places.specs.Memory.{spliced, Apart}
 use Rattle.search.specs.Kept.{kept_in, Index, Holds}
@@ -28,7 +28,7 @@ length_found b vs v x = refl
 
 -- the bytes of x next states are 2 x
 pub length_pairs : (b : Construction) (vs : List (List ℕ)) (v : List ℕ) (x : ℕ) → length (joined x (found_bytes b vs v)) ≡ 2 * x
-length_pairs b vs v x = omega (arith, length-joined x 2 (found_bytes b vs v) (λ y l. length_found b vs v y))
+length_pairs b vs v x = omega (arith, length_joined x 2 (found_bytes b vs v) (λ y l. length_found b vs v y))
 
 pub length_row_for : (b : Construction) (m : ℕ) (vs : List (List ℕ)) (v : List ℕ) → length (row_for b m vs v) ≡ row_size m
 unfolding row_for nexts_for
@@ -47,38 +47,38 @@ pub record NextsTo (p : Plan) (c t : List ℕ) (first : ℕ) (v row₀ row old n
   pub row_is : row ≡ in_front (joined x (found_bytes (made p c t) (kept_in p first old) v)) row₀
 
 module _ (p : Plan) (c t : List ℕ) (first : ℕ) (v row₀ old : List ℕ) where
-  pub nexts-none : (index : Index) → Asks p c t first v old index → NextsTo p c t first v row₀ row₀ old old index first 0
+  pub nexts_none : (index : Index) → Asks p c t first v old index → NextsTo p c t first v row₀ row₀ old old index first 0
   unfolding expanded joined
-  nexts-none index a =
+  nexts_none index a =
       record { turn = omega arith; roomy = a.roomy; row_long = refl; listed = refl; holds = a.holds; apart = apart_refl _ _ _ _; row_is = in_front_none row₀ }
 
   module _ {row new : List ℕ} {index : Index} {held x : ℕ} (so : NextsTo p c t first v row₀ row old new index held x) where
-    pub nexts-asks : {index₀ : Index} → Asks p c t first v old index₀ → Asks p c t held v new index
-    nexts-asks a = record { ready = a.ready; roomy = so.roomy; value = a.value; holds = so.holds }
+    pub nexts_asks : {index₀ : Index} → Asks p c t first v old index₀ → Asks p c t held v new index
+    nexts_asks a = record { ready = a.ready; roomy = so.roomy; value = a.value; holds = so.holds }
 
     module _ {new' : List ℕ} {index' : Index} {at more : ℕ} (h : x < p.shape.letters) (s : Settles p c t x v new new' index' held at more) where
       -- the list with letter x's value kept
       listed_more : kept_in p more new' ≡ expanded (made p c t).key (made p c t).step (suc x) v (kept_in p first old)
-      listed_more = s.kept_is ∙ rw so.listed (sym (expanded-suc (made p c t).key (made p c t).step v (kept_in p first old) x))
+      listed_more = s.kept_is ∙ rw so.listed (sym (expanded_suc (made p c t).key (made p c t).step v (kept_in p first old) x))
 
       pair_is : two_bytes at ≡ found_bytes (made p c t) (kept_in p first old) v x
       unfolding found_bytes
       pair_is = ap two_bytes (s.place_is ∙ ap (λ (vs : List (List ℕ)). place (made p c t).key vs ((made p c t).step x v)) so.listed)
 
       -- the states that are kept are all listed in the end
-      pub nexts-full : p.room < more → p.room < length (grown p c t first v old)
-      nexts-full r =
+      pub nexts_full : p.room < more → p.room < length (grown p c t first v old)
+      nexts_full r =
           omega (
             arith,
             ap length listed_more,
-            length-values p.stride p.width more new',
-            extends_length (expanded-more (made p c t).key (made p c t).step v (kept_in p first old) (suc x) p.shape.letters h),
+            length_values p.stride p.width more new',
+            extends_length (expanded_more (made p c t).key (made p c t).step v (kept_in p first old) (suc x) p.shape.letters h),
           )
 
-      pub nexts-more : more ≤ p.room → {row' : List ℕ} → length row' ≡ length row → row' ≡ spliced (2 * x) (two_bytes at) row →
+      pub nexts_more : more ≤ p.room → {row' : List ℕ} → length row' ≡ length row → row' ≡ spliced (2 * x) (two_bytes at) row →
           NextsTo p c t first v row₀ row' old new' index' more (x + 1)
       unfolding joined
-      nexts-more r lr w =
+      nexts_more r lr w =
           record {
             turn = omega arith;
             roomy = r;
@@ -89,6 +89,6 @@ module _ (p : Plan) (c t : List ℕ) (first : ℕ) (v row₀ old : List ℕ) whe
             row_is = rw add-one (w ∙ in_front_splice _ row₀ (two_bytes at) row (2 * x) so.row_is (length_pairs _ _ v x) ∙ rw pair_is);
           }
 
-    pub nexts-all : x ≡ p.shape.letters → Taken p c t first v (in_front (nexts_for (made p c t) p.shape.letters (kept_in p first old) v) row₀) row old new index held
+    pub nexts_all : x ≡ p.shape.letters → Taken p c t first v (in_front (nexts_for (made p c t) p.shape.letters (kept_in p first old) v) row₀) row old new index held
     unfolding nexts_for
-    nexts-all e = record { roomy = so.roomy; listed = so.listed ∙ ap (λ y. expanded (made p c t).key (made p c t).step y v (kept_in p first old)) e; holds = so.holds; apart = so.apart; row_is = so.row_is ∙ ap (λ y. in_front (joined y (found_bytes (made p c t) (kept_in p first old) v)) row₀) e }
+    nexts_all e = record { roomy = so.roomy; listed = so.listed ∙ ap (λ y. expanded (made p c t).key (made p c t).step y v (kept_in p first old)) e; holds = so.holds; apart = so.apart; row_is = so.row_is ∙ ap (λ y. in_front (joined y (found_bytes (made p c t) (kept_in p first old) v)) row₀) e }

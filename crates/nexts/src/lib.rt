@@ -1,4 +1,6 @@
 // All letters of one state taken: what is new kept, and the next states written.
+#![tactic(auto)]
+
 ghost use Rattle.std.specs.Prelude.{◌*◌, ◌≤◌, length};
 ghost use Rattle.paper.specs.Lists.{in_front};
 ghost use Rattle.kinds.specs.Kinds.{made};
@@ -10,7 +12,7 @@ use kinds::Plan;
 use settle::{put_two, settle};
 
 // How many states are kept after a step, or that they outnumber the room.
-#[derive(Drop)]
+#[derive(Clone, Copy)]
 pub enum Grown {
     Held(usize),
     Full,

@@ -12,9 +12,9 @@ use Rattle.paper.specs.Numbering.{itself, place}
 use Rattle.paper.specs.Tables.{next_at, table_fits, next_by, state_of, table_grade}
 use Rattle.paper.specs.Constructions.{Construction, states_of, table_of}
 use Rattle.numbering.specs.Numbered.{word_key, KeyDecides}
-use Rattle.numbering.proofs.Theorems.{states-some, states-place, states-closed, walk-key}
-use Rattle.numbering.proofs.TableFits.{table-passes}
-use Rattle.numbering.proofs.TableBytes.{length_table, grade-back, next-back}
+use Rattle.numbering.proofs.Theorems.{states_some, states_place, states_closed, walk_key}
+use Rattle.numbering.proofs.TableFits.{table_passes}
+use Rattle.numbering.proofs.TableBytes.{length_table, grade_back, next_back}
 
 -- where values are their own keys, these decide all
 pub itself_decides : (first : List ℕ) (step : ℕ → List ℕ → List ℕ) (grade : List ℕ → ℕ) (m : ℕ) →
@@ -34,17 +34,17 @@ module _
     S = states_of b m room
 
     -- every next state is a state
-    next-state : (s : ℕ) → s < length S → (x : ℕ) → x < m → place b.key S (b.step x (get_or S s [])) < length S
+    next_state : (s : ℕ) → s < length S → (x : ℕ) → x < m → place b.key S (b.step x (get_or S s [])) < length S
     unfolding states_of
-    next-state = states-closed b.key b.step m room b.first decides.steps fits
+    next_state = states_closed b.key b.step m room b.first decides.steps fits
 
     next_is : (s : ℕ) → s < length S → (x : ℕ) → x < m → next_at rows m s x ≡ place b.key S (b.step x (get_or S s []))
-    next_is s h x l = next-back b m S rows rest front (omega arith) s x h l
+    next_is s h x l = next_back b m S rows rest front (omega arith) s x h l
 
-    pub construction-fits : (top : ℕ) → 1 ≤ m → m ≤ 16 → ((s : ℕ) → s < length S → b.grade (get_or S s []) < top) →
+    pub construction_fits : (top : ℕ) → 1 ≤ m → m ≤ 16 → ((s : ℕ) → s < length S → b.grade (get_or S s []) < top) →
         table_fits rows (length S) m top ≡ true
-    construction-fits top low high grades =
-        table-passes
+    construction_fits top low high grades =
+        table_passes
         rows
         (length S)
         m
@@ -52,7 +52,7 @@ module _
         (record {
           sized =
               record {
-                count_low = unfold states_of in states-some b.key b.step m room b.first;
+                count_low = unfold states_of in states_some b.key b.step m room b.first;
                 count_high = omega arith;
                 m_low = low;
                 m_high = high;
@@ -61,35 +61,35 @@ module _
           row =
               λ s h.
               record {
-                grade_low = rw (grade-back b m S rows rest front s h) (grades s h);
-                next_low = λ x l. rw (next_is s h x l) (next-state s h x l);
+                grade_low = rw (grade_back b m S rows rest front s h) (grades s h);
+                next_low = λ x l. rw (next_is s h x l) (next_state s h x l);
               };
         })
 
     -- the state to which a word leads has the key of the word's value
-    pub construction-states : (u : List ℕ) → Word m u →
+    pub construction_states : (u : List ℕ) → Word m u →
         (state_of rows m u < length S) × (b.key (get_or S (state_of rows m u) []) ≡ b.key (after b.step b.first u))
     unfolding states_of state_of next_by
-    construction-states = walk-key b.key b.step m room b.first decides.steps fits (next_by rows m) next_is
+    construction_states = walk_key b.key b.step m room b.first decides.steps fits (next_by rows m) next_is
 
     -- so two words share a state exactly where their keys are equal
-    pub construction-shares : (u w : List ℕ) → Word m u → Word m w →
+    pub construction_shares : (u w : List ℕ) → Word m u → Word m w →
         (state_of rows m u ≡ state_of rows m w) ↔ (word_key b.key b.step b.first u ≡ word_key b.key b.step b.first w)
-    construction-shares u w hu hw =
+    construction_shares u w hu hw =
         (λ e. sym (found u hu).1 ∙ ap (λ (s : ℕ). b.key (get_or S s [])) e ∙ (found w hw).1, λ e. sym (placed u hu refl) ∙ placed w hw e)
       where
         found : (u : List ℕ) → Word m u → (state_of rows m u < length S) × (b.key (get_or S (state_of rows m u) []) ≡ word_key b.key b.step b.first u)
-        found = construction-states
+        found = construction_states
 
         -- the state of a word is the place of any value of its key
         placed : (t : List ℕ) → Word m t → word_key b.key b.step b.first u ≡ word_key b.key b.step b.first t →
             place b.key S (after b.step b.first u) ≡ state_of rows m t
-        placed t ht e = unfold states_of in states-place b.key b.step m room b.first (state_of rows m t) (found t ht).0 (after b.step b.first u) ((found t ht).1 ∙ sym e)
+        placed t ht e = unfold states_of in states_place b.key b.step m room b.first (state_of rows m t) (found t ht).0 (after b.step b.first u) ((found t ht).1 ∙ sym e)
 
     -- the table grades every word as the construction does
-    pub construction-grades : (u : List ℕ) → Word m u → table_grade rows m u ≡ b.grade (after b.step b.first u)
+    pub construction_grades : (u : List ℕ) → Word m u → table_grade rows m u ≡ b.grade (after b.step b.first u)
     unfolding table_grade
-    construction-grades u w =
-        let h = construction-states u w in
-        grade-back b m S rows rest front (state_of rows m u) h.0
+    construction_grades u w =
+        let h = construction_states u w in
+        grade_back b m S rows rest front (state_of rows m u) h.0
         ∙ decides.grades (get_or S (state_of rows m u) []) (after b.step b.first u) h.1

@@ -49,10 +49,10 @@ pairs_snoc R vs v h p i j o l =
     o
 
 -- a map, by place
-pub get_d_map : (f : List ℕ → List ℕ) (vs : List (List ℕ)) (i : ℕ) → i < length vs → get_or (map f vs) i [] ≡ f (get_or vs i [])
-get_d_map f [] i l = absurd (not-suc-le-zero l)
-get_d_map f (v ∷ vs) zero l = refl
-get_d_map f (v ∷ vs) (suc i) l = get_d_map f vs i (le_of_suc-le-suc l)
+pub get_or_map : (f : List ℕ → List ℕ) (vs : List (List ℕ)) (i : ℕ) → i < length vs → get_or (map f vs) i [] ≡ f (get_or vs i [])
+get_or_map f [] i l = absurd (not-suc-le-zero l)
+get_or_map f (v ∷ vs) zero l = refl
+get_or_map f (v ∷ vs) (suc i) l = get_or_map f vs i (le_of_suc-le-suc l)
 
 -- ---- a list with more behind it
 

@@ -7,7 +7,7 @@ use native.Mathlib.Decide.{ℕ_discrete}
 use native.Mathlib.Nat.{not-suc-le-zero}
 use lib.ListN.{length, get_or}
 use Rattle.paper.specs.Numbering.{place}
-use Rattle.numbering.proofs.Place.{place-key}
+use Rattle.numbering.proofs.Place.{place_key}
 
 -- y, but v where y is b
 abbrev swapped : (y b v : ℕ) → Dec (y ≡ b) → ℕ
@@ -63,6 +63,6 @@ pigeonhole_keys key n value vs placed apart =
     j
     o
     l
-    (sym (place-key key vs (value i) (placed i (omega arith)))
+    (sym (place_key key vs (value i) (placed i (omega arith)))
     ∙ ap (λ (s : ℕ). key (get_or vs s [])) e
-    ∙ place-key key vs (value j) (placed j l)))
+    ∙ place_key key vs (value j) (placed j l)))

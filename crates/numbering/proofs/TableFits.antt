@@ -9,8 +9,8 @@ use borrow.Author.Tests.{ltb-true, leb-true, lt-ltb, le-leb}
 use Rattle.paper.specs.Lists.{both, all_below}
 use Rattle.paper.specs.Words.{Word}
 use Rattle.paper.specs.Tables.{row_size, grade_at, next_at, size_fits, next_fits, row_fits, table_fits, next_by, state_of}
-use Rattle.lists.proofs.Tests.{both_split, both_true, all-at, all-by}
-use Rattle.numbering.proofs.Words.{with, after-with, after-keeps}
+use Rattle.lists.proofs.Tests.{both_split, both_true, all_at, all_by}
+use Rattle.numbering.proofs.Words.{with, after_with, after_keeps}
 
 pub record Sized (rows : List ℕ) (count m : ℕ) : Type 0 where
   pub count_low : 1 ≤ count
@@ -28,22 +28,22 @@ pub record Table (rows : List ℕ) (count m top : ℕ) : Type 0 where
   pub row : (s : ℕ) → s < count → Row rows count m top s
 
 module _ (rows : List ℕ) (count m : ℕ) where
-  abbrev countFits : Bool
-  countFits = both (leb 1 count) (leb count 4096)
+  abbrev count_fits : Bool
+  count_fits = both (leb 1 count) (leb count 4096)
 
-  abbrev lettersFit : Bool
-  lettersFit = both (leb 1 m) (leb m 16)
+  abbrev letters_fit : Bool
+  letters_fit = both (leb 1 m) (leb m 16)
 
-  abbrev longEnough : Bool
-  longEnough = leb (count * row_size m) (length rows)
+  abbrev long_enough : Bool
+  long_enough = leb (count * row_size m) (length rows)
 
   -- what passes has the facts, and what has the facts passes: sizes, a row, a table
-  pub size-facts : size_fits rows count m ≡ true → Sized rows count m
+  pub size_facts : size_fits rows count m ≡ true → Sized rows count m
   unfolding size_fits
-  size-facts e =
-      let h = both_split countFits (both lettersFit longEnough) e in
+  size_facts e =
+      let h = both_split count_fits (both letters_fit long_enough) e in
       let c = both_split (leb 1 count) (leb count 4096) h.0 in
-      let l = both_split lettersFit longEnough h.1 in
+      let l = both_split letters_fit long_enough h.1 in
       let n = both_split (leb 1 m) (leb m 16) l.0 in
       record {
         count_low = leb-true 1 count c.0;
@@ -53,49 +53,49 @@ module _ (rows : List ℕ) (count m : ℕ) where
         long = leb-true (count * row_size m) (length rows) l.1;
       }
 
-  pub size-passes : Sized rows count m → size_fits rows count m ≡ true
+  pub size_passes : Sized rows count m → size_fits rows count m ≡ true
   unfolding size_fits
-  size-passes f =
-      both_true countFits (both lettersFit longEnough)
+  size_passes f =
+      both_true count_fits (both letters_fit long_enough)
       (both_true (leb 1 count) (leb count 4096) (le-leb 1 count f.count_low) (le-leb count 4096 f.count_high))
-      (both_true lettersFit longEnough
+      (both_true letters_fit long_enough
       (both_true (leb 1 m) (leb m 16) (le-leb 1 m f.m_low) (le-leb m 16 f.m_high))
       (le-leb (count * row_size m) (length rows) f.long))
 
   module _ (top : ℕ) where
-    pub row-facts : (s : ℕ) → row_fits rows count m top s ≡ true → Row rows count m top s
+    pub row_facts : (s : ℕ) → row_fits rows count m top s ≡ true → Row rows count m top s
     unfolding row_fits next_fits
-    row-facts s e =
+    row_facts s e =
         let h = both_split (ltb (grade_at rows m s) top) (all_below m (next_fits rows count m s)) e in
         record {
           grade_low = ltb-true (grade_at rows m s) top h.0;
-          next_low = λ x l. ltb-true (next_at rows m s x) count (all-at (next_fits rows count m s) m h.1 x l);
+          next_low = λ x l. ltb-true (next_at rows m s x) count (all_at (next_fits rows count m s) m h.1 x l);
         }
 
-    pub row-passes : (s : ℕ) → Row rows count m top s → row_fits rows count m top s ≡ true
+    pub row_passes : (s : ℕ) → Row rows count m top s → row_fits rows count m top s ≡ true
     unfolding row_fits next_fits
-    row-passes s f =
+    row_passes s f =
         both_true (ltb (grade_at rows m s) top) (all_below m (next_fits rows count m s)) (lt-ltb (grade_at rows m s) top f.grade_low)
-        (all-by (next_fits rows count m s) m (λ x l. lt-ltb (next_at rows m s x) count (f.next_low x l)))
+        (all_by (next_fits rows count m s) m (λ x l. lt-ltb (next_at rows m s x) count (f.next_low x l)))
 
-    pub table-facts : table_fits rows count m top ≡ true → Table rows count m top
+    pub table_facts : table_fits rows count m top ≡ true → Table rows count m top
     unfolding table_fits
-    table-facts e =
+    table_facts e =
         let h = both_split (size_fits rows count m) (all_below count (row_fits rows count m top)) e in
-        record { sized = size-facts h.0; row = λ s l. row-facts s (all-at (row_fits rows count m top) count h.1 s l) }
+        record { sized = size_facts h.0; row = λ s l. row_facts s (all_at (row_fits rows count m top) count h.1 s l) }
 
-    pub table-passes : Table rows count m top → table_fits rows count m top ≡ true
+    pub table_passes : Table rows count m top → table_fits rows count m top ≡ true
     unfolding table_fits
-    table-passes f =
-        both_true (size_fits rows count m) (all_below count (row_fits rows count m top)) (size-passes f.sized)
-        (all-by (row_fits rows count m top) count (λ s l. row-passes s (f.row s l)))
+    table_passes f =
+        both_true (size_fits rows count m) (all_below count (row_fits rows count m top)) (size_passes f.sized)
+        (all_by (row_fits rows count m top) count (λ s l. row_passes s (f.row s l)))
 
     -- a word stays within the table's states
-    pub state-low : Table rows count m top → (u : List ℕ) → Word m u → state_of rows m u < count
+    pub state_low : Table rows count m top → (u : List ℕ) → Word m u → state_of rows m u < count
     unfolding state_of next_by
-    state-low f = after-keeps (next_by rows m) (λ s. s < count) m (λ x h s l. (f.row s l).next_low x h) 0 f.sized.count_low
+    state_low f = after_keeps (next_by rows m) (λ s. s < count) m (λ x h s l. (f.row s l).next_low x h) 0 f.sized.count_low
 
 -- one more letter: one more step
 pub state_with : (rows : List ℕ) (m : ℕ) (u : List ℕ) (x : ℕ) → state_of rows m (with x u) ≡ next_at rows m (state_of rows m u) x
 unfolding state_of next_by
-state_with rows m u x = after-with (next_by rows m) 0 u x
+state_with rows m u x = after_with (next_by rows m) 0 u x

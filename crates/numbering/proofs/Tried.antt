@@ -11,10 +11,10 @@ use lib.Seq.{get_or-append_seam}
 use Rattle.paper.specs.Words.{Word, Before, UpTo}
 use Rattle.paper.specs.Numbering.{place, kept, expanded}
 use Rattle.lists.proofs.Tests.{below_suc}
-use Rattle.numbering.proofs.Words.{with, word-with}
+use Rattle.numbering.proofs.Words.{with, word_with}
 use Rattle.numbering.proofs.Order.{before_last, before_from}
 use Rattle.numbering.proofs.ListLaws.{Each, Pairs, Extends, each_snoc, pairs_snoc, extends_refl, extends_snoc, extends_trans, extends_get_or, extends_length}
-use Rattle.numbering.proofs.Place.{place-key, place_none}
+use Rattle.numbering.proofs.Place.{place_key, place_none}
 use Rattle.numbering.proofs.Kept.{kept_case}
 
 -- a listed word up to u has u's key
@@ -50,11 +50,11 @@ module _ (k : List ℕ → List ℕ) where
 
   module _ (m : ℕ) (start : List (List ℕ)) (p : List ℕ) (word : Word m p) where
     -- one letter more is tried
-    tried-step : (x : ℕ) (ws : List (List ℕ)) → x < m → Tried k m start p x ws → Tried k m start p (suc x) (kept k ws (with x p))
-    tried-step x ws l c = kept_case k (λ us. Tried k m start p (suc x) us) ws (with x p) old new
+    tried_step : (x : ℕ) (ws : List (List ℕ)) → x < m → Tried k m start p x ws → Tried k m start p (suc x) (kept k ws (with x p))
+    tried_step x ws l c = kept_case k (λ us. Tried k m start p (suc x) us) ws (with x p) old new
       where
-        here-more : Each (λ w. Before w (with (suc x) p)) ws
-        here-more i b = before_from (get_or ws i []) p x (suc x) (c.here i b) (omega arith)
+        here_more : Each (λ w. Before w (with (suc x) p)) ws
+        here_more i b = before_from (get_or ws i []) p x (suc x) (c.here i b) (omega arith)
 
         done_more : (us : List (List ℕ)) → Extends ws us → Covered k us (with x p) → (y : ℕ) → y < suc x → Covered k us (with y p)
         done_more us a q = below_suc {P = λ y. Covered k us (with y p)} x (λ y h. covered_more (with y p) a (c.done y h)) q
@@ -63,13 +63,13 @@ module _ (k : List ℕ → List ℕ) where
         old h =
             record {
               good = c.good;
-              here = here-more;
+              here = here_more;
               more = c.more;
               done =
                   done_more
                   ws
                   extends_refl
-                  (record { at = place k ws (with x p); below = h; upto = inr (c.here _ h); same = place-key k ws (with x p) h });
+                  (record { at = place k ws (with x p); below = h; upto = inr (c.here _ h); same = place_key k ws (with x p) h });
             }
 
         new : place k ws (with x p) ≡ length ws → Tried k m start p (suc x) (ws ++ (with x p ∷ []))
@@ -79,9 +79,9 @@ module _ (k : List ℕ → List ℕ) where
                   record {
                     rises = pairs_snoc Before ws (with x p) c.good.rises c.here;
                     apart = pairs_snoc (λ v w. k v ≡ k w → ⊥) ws (with x p) c.good.apart (place_none k ws (with x p) h);
-                    words = each_snoc (Word m) ws (with x p) c.good.words (word-with m p x word l);
+                    words = each_snoc (Word m) ws (with x p) c.good.words (word_with m p x word l);
                   };
-              here = each_snoc (λ u. Before u (with (suc x) p)) ws (with x p) here-more (before_last p x (suc x) (omega arith));
+              here = each_snoc (λ u. Before u (with (suc x) p)) ws (with x p) here_more (before_last p x (suc x) (omega arith));
               more = extends_trans c.more (extends_snoc (with x p));
               done =
                   done_more
@@ -96,7 +96,7 @@ module _ (k : List ℕ → List ℕ) where
             }
 
     -- the letters below x are tried
-    pub expanded-tried : Rising k m start → Each (λ w. Before w (with 0 p)) start → (x : ℕ) → x ≤ m → Tried k m start p x (expanded k with x p start)
+    pub expanded_tried : Rising k m start → Each (λ w. Before w (with 0 p)) start → (x : ℕ) → x ≤ m → Tried k m start p x (expanded k with x p start)
     unfolding expanded
-    expanded-tried r h zero l = record { good = r; here = h; more = extends_refl; done = λ y g. absurd (not-suc-le-zero g) }
-    expanded-tried r h (suc x) l = tried-step x (expanded k with x p start) l (expanded-tried r h x (omega arith))
+    expanded_tried r h zero l = record { good = r; here = h; more = extends_refl; done = λ y g. absurd (not-suc-le-zero g) }
+    expanded_tried r h (suc x) l = tried_step x (expanded k with x p start) l (expanded_tried r h x (omega arith))

@@ -1,4 +1,6 @@
 // Inner: what must hold of each line of a sheet that fits. Each has a `requires`, so only proved code may call them.
+#![tactic(auto)]
+
 ghost use Rattle.std.specs.Prelude.{◌≡◌, ◌<◌};
 ghost use Rattle.paper.specs.Lists.{least_fail};
 ghost use Rattle.paper.specs.Chart.{letters};

@@ -10,7 +10,7 @@ use lib.ListN.{length, get_or, take, drop, set, length-append, length-take, leng
 use lib.Seq.{take-add, take-suc, take-suc-set, set_split, set_at, drop-cons, append_snoc, take_at, drop_at, take_all, drop-drop, length-take-le, drop-append-add, get_or-take, get_or-drop, ext_get_or}
 use borrow.Rule.Slice.PartMut.{put_mid}
 use Rattle.paper.specs.Lists.{tabulate, in_front, joined, part}
-use Rattle.lists.proofs.ByPlace.{tabulate-cong}
+use Rattle.lists.proofs.ByPlace.{tabulate_cong}
 use Rattle.places.specs.Search.{place_at, values}
 use Rattle.places.specs.Memory.{spliced, Apart}
 
@@ -66,18 +66,18 @@ in_front_splice done old new buf at e l =
 -- ---- values in places
 
 module _ (stride w : ℕ) where
-  pub length-place : (xs : List ℕ) (s : ℕ) → s * stride + w ≤ length xs → length (place_at stride w xs s) ≡ w
+  pub length_place : (xs : List ℕ) (s : ℕ) → s * stride + w ≤ length xs → length (place_at stride w xs s) ≡ w
   unfolding place_at
-  length-place xs s h = simp (length-take, length-drop) (omega arith)
+  length_place xs s h = simp (length-take, length-drop) (omega arith)
 
   pub place_byte : (xs : List ℕ) (s j : ℕ) → j < w → get_or (place_at stride w xs s) j 0 ≡ get_or xs (s * stride + j) 0
   unfolding place_at
   place_byte xs s j h = rw (get_or-take, get_or-drop)
 
   -- one place more, as a loop counts
-  pub values-more : (held : ℕ) (xs : List ℕ) → values stride w (held + 1) xs ≡ values stride w held xs ++ (place_at stride w xs held ∷ [])
+  pub values_more : (held : ℕ) (xs : List ℕ) → values stride w (held + 1) xs ≡ values stride w held xs ++ (place_at stride w xs held ∷ [])
   unfolding values tabulate
-  values-more held xs = rw add-one
+  values_more held xs = rw add-one
 
   -- the candidate in place `held`
   module _ (held : ℕ) (new old : List ℕ) (wide : length new ≡ w) (inside : w ≤ stride) where
@@ -86,23 +86,23 @@ module _ (stride w : ℕ) where
     place_here h = rw (drop_at (take (held * stride) old) _ (held * stride) (length-take-le (held * stride) old h), take_at new _ w wide)
 
     module _ (fits : held * stride + w ≤ length old) where
-      pub place-before : (s : ℕ) → s < held → place_at stride w (spliced (held * stride) new old) s ≡ place_at stride w old s
-      place-before s h =
+      pub place_before : (s : ℕ) → s < held → place_at stride w (spliced (held * stride) new old) s ≡ place_at stride w old s
+      place_before s h =
           let b : s * stride + stride ≤ held * stride = omega (arith, suc-mul s stride, mul-le-mul_right stride h) in
           let n : length (spliced (held * stride) new old) ≡ length old = length_spliced (held * stride) new old (rw wide fits) in
-          ext_get_or 0 _ _ (length-place (spliced (held * stride) new old) s (rw n (omega arith)) ∙ sym (length-place old s (omega arith)))
+          ext_get_or 0 _ _ (length_place (spliced (held * stride) new old) s (rw n (omega arith)) ∙ sym (length_place old s (omega arith)))
           (λ j l.
-          let l' : j < w = rw (length-place (spliced (held * stride) new old) s (rw n (omega arith))) at l in
+          let l' : j < w = rw (length_place (spliced (held * stride) new old) s (rw n (omega arith))) at l in
           place_byte (spliced (held * stride) new old) s j l'
           ∙ get_or_before (held * stride) new old (s * stride + j) (omega arith) (omega arith)
           ∙ sym (place_byte old s j l'))
 
-      pub values-before : values stride w held (spliced (held * stride) new old) ≡ values stride w held old
+      pub values_before : values stride w held (spliced (held * stride) new old) ≡ values stride w held old
       unfolding values
-      values-before = tabulate-cong held _ _ place-before
+      values_before = tabulate_cong held _ _ place_before
 
-      pub apart-spliced : (places : ℕ) → held < places → Apart stride w places old (spliced (held * stride) new old)
-      apart-spliced places h =
+      pub apart_spliced : (places : ℕ) → held < places → Apart stride w places old (spliced (held * stride) new old)
+      apart_spliced places h =
           let m : held * stride + stride ≤ places * stride = omega (arith, suc-mul held stride, mul-le-mul_right stride h) in
           record {
             long = length_spliced (held * stride) new old (rw wide fits);

@@ -11,7 +11,7 @@ use borrow.Author.Tests.{lt-ltb, le-ltb, le-leb, lt-leb, ltb-true, ltb-false}
 use Rattle.paper.specs.Lists.{both, pick, unless, part}
 use Rattle.paper.specs.Builders.{vector_at}
 use Rattle.lists.proofs.Tests.{both_false}
-use Rattle.lists.proofs.ByPlace.{length-tabulate, get_d_tabulate}
+use Rattle.lists.proofs.ByPlace.{length_tabulate, get_or_tabulate}
 use Rattle.places.specs.Search.{place_at, values, place_for}
 use Rattle.places.specs.declared.Place.{Place}
 
@@ -31,8 +31,8 @@ module _ (n j : ℕ) where
       go true q k = (ltb-true j n q, cc)
       go false q k = let z : ◌≡◌ {A = ℕ} 0 1 = cc in absurd (omega arith)
 
-  pub answer-none : place_for n j ≡ Place.Nowhere → n ≤ j
-  answer-none h = go (ltb j n) refl h
+  pub answer_none : place_for n j ≡ Place.Nowhere → n ≤ j
+  answer_none h = go (ltb j n) refl h
     where
       go : (b : Bool) → ltb j n ≡ b → pick b (Place.At j) Place.Nowhere ≡ Place.Nowhere → n ≤ j
       go true q k = let z : ◌≡◌ {A = ℕ} 0 1 = cc in absurd (omega arith)
@@ -41,38 +41,38 @@ module _ (n j : ℕ) where
 -- ---- values in places
 
 module _ (stride w held : ℕ) (xs : List ℕ) where
-  pub length-values : length (values stride w held xs) ≡ held
+  pub length_values : length (values stride w held xs) ≡ held
   unfolding values
-  length-values = length-tabulate held (place_at stride w xs)
+  length_values = length_tabulate held (place_at stride w xs)
 
-  pub values-at : (s : ℕ) → s < held → get_or (values stride w held xs) s [] ≡ place_at stride w xs s
+  pub values_at : (s : ℕ) → s < held → get_or (values stride w held xs) s [] ≡ place_at stride w xs s
   unfolding values
-  values-at s h = get_d_tabulate held (place_at stride w xs) [] s h
+  values_at s h = get_or_tabulate held (place_at stride w xs) [] s h
 
 -- ---- the vector behind a state
 
 module _ (xs : List ℕ) (n count s : ℕ) where
-  pub none-state : count ≤ s → [] ≡ vector_at xs n count s
+  pub none_state : count ≤ s → [] ≡ vector_at xs n count s
   unfolding vector_at both
-  none-state h = simp (le-ltb s count h)
+  none_state h = simp (le-ltb s count h)
 
-  pub none-wide : n ≡ 0 → [] ≡ vector_at xs n count s
+  pub none_wide : n ≡ 0 → [] ≡ vector_at xs n count s
   unfolding vector_at part
-  none-wide e = rw e (go (both (ltb s count) (leb (suc s * 0) (length xs))))
+  none_wide e = rw e (go (both (ltb s count) (leb (suc s * 0) (length xs))))
     where
       go : (b : Bool) → [] ≡ unless b [] (take 0 (drop (s * 0) xs))
       go true = refl
       go false = refl
 
-  pub none-whole : s < count → 0 < n → length xs / n ≤ s → [] ≡ vector_at xs n count s
+  pub none_whole : s < count → 0 < n → length xs / n ≤ s → [] ≡ vector_at xs n count s
   unfolding vector_at
-  none-whole h p l = simp (lt-leb (suc s * n) (length xs) ((div-lt_iff_lt-mul p).0 (omega arith)), both_false)
+  none_whole h p l = simp (lt-leb (suc s * n) (length xs) ((div-lt_iff_lt-mul p).0 (omega arith)), both_false)
 
   pub whole : 0 < n → s < length xs / n → suc s * n ≤ length xs
   whole p l = (le-div_iff_mul-le p).0 l
 
-  pub some-part : s < count → suc s * n ≤ length xs → (r : List ℕ) → r ≡ take (s * n + n - s * n) (drop (s * n) xs) → r ≡ vector_at xs n count s
+  pub some_part : s < count → suc s * n ≤ length xs → (r : List ℕ) → r ≡ take (s * n + n - s * n) (drop (s * n) xs) → r ≡ vector_at xs n count s
   unfolding vector_at part both
-  some-part h l r e =
+  some_part h l r e =
       let q : s * n + n - s * n ≡ n = omega arith in
       simp (lt-ltb s count h, le-leb (suc s * n) (length xs) l) (e ∙ rw q)

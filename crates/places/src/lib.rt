@@ -1,9 +1,11 @@
 // Where a search ended, and the vector behind a state.
+#![tactic(auto)]
+
 ghost use Rattle.std.specs.Prelude.{◌≡◌, ◌+◌, ◌*◌};
 ghost use Rattle.paper.specs.Builders.{vector_at};
 
 // Where an equal value stands: the first such place, or none.
-#[derive(Drop)]
+#[derive(Clone, Copy)]
 pub enum Place {
     At(usize),
     Nowhere,

@@ -17,14 +17,14 @@ use Rattle.paper.specs.Check.{check_reply}
 use Rattle.paper.specs.Tables.{two_bytes, row_size, table_fits_chart, cap_of}
 use Rattle.pages.specs.Frames.{frame, line_length}
 use Rattle.pages.specs.Texts.{Filled, printed, row_line, table_text, table_text_size, print_table}
-use Rattle.chart.proofs.Checked.{shaped, fits-fine, fits_refused}
+use Rattle.chart.proofs.Checked.{shaped, fits_fine, fits_refused}
 use Rattle.rows.proofs.Rows.{size_parts}
-use Rattle.card.proofs.Caps.{size-beside}
+use Rattle.card.proofs.Caps.{size_beside}
 use Rattle.row_lines.specs.RowsIn.{RowsIn}
 use Rattle.printing.specs.Printing.{TableIn, TablePut}
 use Rattle.lists.proofs.Front.{front_more}
-use Rattle.frames.proofs.FrameWritten.{length-frame}
-use Rattle.row_lines.proofs.RowLines.{length-rows}
+use Rattle.frames.proofs.FrameWritten.{length_frame}
+use Rattle.row_lines.proofs.RowLines.{length_rows}
 
 -- ---- the text
 
@@ -34,32 +34,32 @@ rows_text rows count m = frame 0x11 (count / 256 % 256 ∷ count % 256 ∷ m ∷
 
 module _ {c : List ℕ} {s : Shape} {rows : List ℕ} {count m : ℕ} {old : List ℕ} (h : TableIn c s rows count m old) where
   parts : (1 ≤ count) × (count ≤ 4096) × (1 ≤ m) × (m ≤ 16) × (count * row_size m ≤ length rows)
-  parts = size_parts rows count m (size-beside h.beside)
+  parts = size_parts rows count m (size_beside h.beside)
 
   pub few : m ≤ 16
   few = parts.3
 
   -- a row's line is as long as document 01 says
-  line-is : count * line_length (row_size m) ≡ count * (9 + 4 * m)
-  line-is = let e : line_length (row_size m) ≡ 9 + 4 * m = omega arith in ap (λ (l : ℕ). count * l) e
+  line_is : count * line_length (row_size m) ≡ count * (9 + 4 * m)
+  line_is = let e : line_length (row_size m) ≡ 9 + 4 * m = omega arith in ap (λ (l : ℕ). count * l) e
 
   -- behind the first line there is room for the rows
   pub rows_in : (buf : List ℕ) → length buf ≡ length old → RowsIn rows count m (mid_of 13 (length buf - 13) buf)
   rows_in buf e =
-      record { few = few; inside = parts.4; room = simp (length-take, length-drop) (omega (arith, line-is, h.room)) }
+      record { few = few; inside = parts.4; room = simp (length-take, length-drop) (omega (arith, line_is, h.room)) }
 
-  length-text : length (rows_text rows count m) ≡ 13 + count * (9 + 4 * m)
+  length_text : length (rows_text rows count m) ≡ 13 + count * (9 + 4 * m)
   unfolding rows_text
-  length-text =
+  length_text =
       length-append (frame 0x11 (count / 256 % 256 ∷ count % 256 ∷ m ∷ [])) (joined count (row_line rows m))
-      ∙ omega (arith, length-frame 0x11 (count / 256 % 256 ∷ count % 256 ∷ m ∷ []), length-rows rows count m parts.4 count (omega arith), line-is)
+      ∙ omega (arith, length_frame 0x11 (count / 256 % 256 ∷ count % 256 ∷ m ∷ []), length_rows rows count m parts.4 count (omega arith), line_is)
 
   -- the rows behind the first line
-  pub rows-put : (buf lent : List ℕ) → buf ≡ in_front (frame 0x11 (count / 256 % 256 ∷ count % 256 ∷ m ∷ [])) old → lent ≡ in_front (joined count (row_line rows m)) (mid_of 13 (length buf - 13) buf) → put_mid 13 (length buf - 13) buf lent ≡ in_front (rows_text rows count m) old
+  pub rows_put : (buf lent : List ℕ) → buf ≡ in_front (frame 0x11 (count / 256 % 256 ∷ count % 256 ∷ m ∷ [])) old → lent ≡ in_front (joined count (row_line rows m)) (mid_of 13 (length buf - 13) buf) → put_mid 13 (length buf - 13) buf lent ≡ in_front (rows_text rows count m) old
   unfolding rows_text
-  rows-put buf lent e p =
+  rows_put buf lent e p =
       front_more (frame 0x11 (count / 256 % 256 ∷ count % 256 ∷ m ∷ [])) (joined count (row_line rows m)) old buf lent 13
-      (sym (length-frame 0x11 (count / 256 % 256 ∷ count % 256 ∷ m ∷ [])))
+      (sym (length_frame 0x11 (count / 256 % 256 ∷ count % 256 ∷ m ∷ [])))
       e
       p
 
@@ -68,33 +68,33 @@ module _ {c : List ℕ} {s : Shape} {rows : List ℕ} {count m : ℕ} {old : Lis
   whole cap e = rw (e, append_assoc)
 
   -- the cap behind them
-  pub table-put : (buf lent : List ℕ) (cap : ℕ) → buf ≡ in_front (rows_text rows count m) old → cap ≡ cap_of c rows count m → lent ≡ in_front (frame 0x13 (cap ∷ [])) (mid_of (13 + count * (9 + 4 * m)) (length buf - (13 + count * (9 + 4 * m))) buf) → TablePut (table_text c rows count m) old (put_mid (13 + count * (9 + 4 * m)) (length buf - (13 + count * (9 + 4 * m))) buf lent) (13 + count * (9 + 4 * m) + 9)
-  table-put buf lent cap e cap-is p =
+  pub table_put : (buf lent : List ℕ) (cap : ℕ) → buf ≡ in_front (rows_text rows count m) old → cap ≡ cap_of c rows count m → lent ≡ in_front (frame 0x13 (cap ∷ [])) (mid_of (13 + count * (9 + 4 * m)) (length buf - (13 + count * (9 + 4 * m))) buf) → TablePut (table_text c rows count m) old (put_mid (13 + count * (9 + 4 * m)) (length buf - (13 + count * (9 + 4 * m))) buf lent) (13 + count * (9 + 4 * m) + 9)
+  table_put buf lent cap e cap_is p =
       record {
-        size_is = rw (whole cap cap-is, length-append, length-text, length-frame);
-        front = rw (whole cap cap-is) (front_more (rows_text rows count m) (frame 0x13 (cap ∷ [])) old buf lent (13 + count * (9 + 4 * m)) (sym length-text) e p);
+        size_is = rw (whole cap cap_is, length-append, length_text, length_frame);
+        front = rw (whole cap cap_is) (front_more (rows_text rows count m) (frame 0x13 (cap ∷ [])) old buf lent (13 + count * (9 + 4 * m)) (sym length_text) e p);
       }
 
 -- ---- the answer
 module _ (c rows : List ℕ) (count m : ℕ) (old : List ℕ) (a : Checked) (reply : checked_said a ≡ check_reply c) where
-  pub print-refused : (why : Refusal) → a ≡ Checked.Refused why → ◌≡◌ {A = Filled} (record { reply = said why; buffer = old }) (print_table c rows count m old)
+  pub print_refused : (why : Refusal) → a ≡ Checked.Refused why → ◌≡◌ {A = Filled} (record { reply = said why; buffer = old }) (print_table c rows count m old)
   unfolding print_table
-  print-refused why e = rw (fits_refused c reply e, ← reply, e)
+  print_refused why e = rw (fits_refused c reply e, ← reply, e)
 
   module _ (s : Shape) (e : a ≡ Checked.Fine s) where
-    pub print-room : leb (table_text_size count m) (length old) ≡ false → ◌≡◌ {A = Filled} (record { reply = (5, []); buffer = old }) (print_table c rows count m old)
+    pub print_room : leb (table_text_size count m) (length old) ≡ false → ◌≡◌ {A = Filled} (record { reply = (5, []); buffer = old }) (print_table c rows count m old)
     unfolding print_table
-    print-room f = rw (fits-fine c reply e, f)
+    print_room f = rw (fits_fine c reply e, f)
 
     module _ (room : leb (table_text_size count m) (length old) ≡ true) where
-      pub print-bad : table_fits_chart c rows count m ≡ false → ◌≡◌ {A = Filled} (record { reply = (9, []); buffer = old }) (print_table c rows count m old)
+      pub print_bad : table_fits_chart c rows count m ≡ false → ◌≡◌ {A = Filled} (record { reply = (9, []); buffer = old }) (print_table c rows count m old)
       unfolding print_table
-      print-bad f = rw (fits-fine c reply e, room, f)
+      print_bad f = rw (fits_fine c reply e, room, f)
 
       module _ (f : table_fits_chart c rows count m ≡ true) where
-        pub table-in : TableIn c s rows count m old
-        table-in = record { beside = record { shaped = shaped c reply e; fits = f }; room = leb-true (table_text_size count m) (length old) room }
+        pub table_in : TableIn c s rows count m old
+        table_in = record { beside = record { shaped = shaped c reply e; fits = f }; room = leb-true (table_text_size count m) (length old) room }
 
-        pub print-done : (size : ℕ) (new : List ℕ) → TablePut (table_text c rows count m) old new size → ◌≡◌ {A = Filled} (record { reply = (0, size ∷ []); buffer = new }) (print_table c rows count m old)
+        pub print_done : (size : ℕ) (new : List ℕ) → TablePut (table_text c rows count m) old new size → ◌≡◌ {A = Filled} (record { reply = (0, size ∷ []); buffer = new }) (print_table c rows count m old)
         unfolding print_table printed
-        print-done size new p = rw (fits-fine c reply e, room, f, p.size_is, p.front)
+        print_done size new p = rw (fits_fine c reply e, room, f, p.size_is, p.front)

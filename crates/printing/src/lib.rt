@@ -1,4 +1,6 @@
 // Printing a table with its cap.
+#![tactic(auto)]
+
 ghost use Rattle.std.specs.Prelude.{◌≡◌};
 ghost use Rattle.replies.specs.Replies.{written_said};
 ghost use Rattle.pages.specs.Texts.{Filled, table_text, print_table};

@@ -16,18 +16,18 @@ use Rattle.paper.specs.Check.{broken_law, check_reply, chart_fits}
 use Rattle.paper.specs.Tables.{row_size}
 use Rattle.paper.specs.Constructions.{Construction, states_of, table_of, reverse_by, reverse_states, rows_by, row_states}
 use Rattle.paper.specs.Builders.{placed, room_fits, Forward, forward_room, forward_built, forward, Lent, Backward, all_zeros, backward_room, backward_built, brzozowski}
-use Rattle.lists.proofs.Tests.{not_both, both_split, unless-passed, unless-told}
-use Rattle.algebra.proofs.Checked.{number_fits, ranged, ranged-reply}
+use Rattle.lists.proofs.Tests.{not_both, both_split, unless_passed, unless_told}
+use Rattle.algebra.proofs.Checked.{number_fits, ranged, ranged_reply}
 use Rattle.promises.specs.Demands.{ForwardAdmits, BackwardAdmits}
 
 -- ---- charts and rooms
 
 -- the chart's refusals have numbers 1 to 4
-chart-number : (c : List ℕ) (n : ℕ) → (n ≡ 0) ⊎ (4 < n) → chart_fits c ≡ false → (check_reply c).0 ≡ n → ⊥
-chart-number c n (inl z) q e = not_both (number_fits c (e ∙ z)) q
-chart-number c n (inr h) q e =
+chart_number : (c : List ℕ) (n : ℕ) → (n ≡ 0) ⊎ (4 < n) → chart_fits c ≡ false → (check_reply c).0 ≡ n → ⊥
+chart_number c n (inl z) q e = not_both (number_fits c (e ∙ z)) q
+chart_number c n (inr h) q e =
     let r = ranged c n (omega arith) (omega arith) (omega arith) e in
-    let law = unless-passed (λ (r : Reply). r.0 ≡ n) (eqb (broken_law c) 8) _ _ (omega arith) (rw (ranged-reply c r) at e) in
+    let law = unless_passed (λ (r : Reply). r.0 ≡ n) (eqb (broken_law c) 8) _ _ (omega arith) (rw (ranged_reply c r) at e) in
     omega (arith, law.1)
 
 -- an answer of another number than those and 5: neither the chart nor the room is refused
@@ -36,8 +36,8 @@ admitted : {X : Type 0} (reply : X → Reply) (c : List ℕ) (room : Bool) (n : 
     (reply (unless (chart_fits c) refused (unless room short rest))).0 ≡ n → (chart_fits c ≡ true) × (room ≡ true)
 admitted {X} reply c room n other refused short rest by-chart by-room e =
     let number : X → Type 0 = λ o. (reply o).0 ≡ n in
-    let chart = unless-told number (chart_fits c) refused (unless room short rest) (λ q p. chart-number c n (not_five other) q (rw by-chart at p)) e in
-    (chart.0, (unless-passed number room short rest (λ p. not_short other (rw by-room at p)) chart.1).0)
+    let chart = unless_told number (chart_fits c) refused (unless room short rest) (λ q p. chart_number c n (not_five other) q (rw by-chart at p)) e in
+    (chart.0, (unless_passed number room short rest (λ p. not_short other (rw by-room at p)) chart.1).0)
   where
     not_five : (n ≡ 0) ⊎ (5 < n) → (n ≡ 0) ⊎ (4 < n)
     not_five (inl z) = inl z
@@ -52,9 +52,9 @@ pub record Room (most w room values : ℕ) : Type 0 where
   pub high : room ≤ most
   pub long : suc room * w ≤ values
 
-pub room-facts : (most m w room table values : ℕ) → room_fits most m w room table values ≡ true → Room most w room values
+pub room_facts : (most m w room table values : ℕ) → room_fits most m w room table values ≡ true → Room most w room values
 unfolding room_fits
-room-facts most m w room table values e =
+room_facts most m w room table values e =
     let t = both_split (both (leb 1 room) (leb room most)) (both (leb (room * row_size m) table) (leb (suc room * w) values)) e in
     let r = both_split (leb 1 room) (leb room most) t.0 in
     let v = both_split (leb (room * row_size m) table) (leb (suc room * w) values) t.1 in
@@ -66,29 +66,29 @@ module _ (c : List ℕ) (b : Construction) (room : ℕ) (table vectors : List �
   abbrev S : List (List ℕ)
   S = states_of b (letters c) room
 
-  abbrev pub forwardFull : Forward
-  forwardFull = record { reply = (7, []); table = zeros table; vectors = zeros vectors }
+  abbrev pub forward_full : Forward
+  forward_full = record { reply = (7, []); table = zeros table; vectors = zeros vectors }
 
-  abbrev pub forwardMade : Forward
-  forwardMade =
+  abbrev pub forward_made : Forward
+  forward_made =
       record {
         reply = fine (length S ∷ []);
         table = in_front (table_of b (letters c) S) table;
         vectors = placed (n_of c) (suc room) S vectors;
       }
 
-  pub forward-admits : (n : ℕ) → (n ≡ 0) ⊎ (5 < n) → (forward c b room table vectors).reply.0 ≡ n → ForwardAdmits c room table vectors
+  pub forward_admits : (n : ℕ) → (n ≡ 0) ⊎ (5 < n) → (forward c b room table vectors).reply.0 ≡ n → ForwardAdmits c room table vectors
   unfolding forward
-  forward-admits n other = admitted (λ (o : Forward). o.reply) c (forward_room c room table vectors) n other _ _ _ refl refl
+  forward_admits n other = admitted (λ (o : Forward). o.reply) c (forward_room c room table vectors) n other _ _ _ refl refl
 
   -- the states outnumber the room, or they are all there
   abbrev pub ForwardCases : Type 0
   ForwardCases =
-      ((room < length S) × (forward c b room table vectors ≡ forwardFull)) ⊎ ((length S ≤ room) × (forward c b room table vectors ≡ forwardMade))
+      ((room < length S) × (forward c b room table vectors ≡ forward_full)) ⊎ ((length S ≤ room) × (forward c b room table vectors ≡ forward_made))
 
-  pub forward-cases : ForwardAdmits c room table vectors → ForwardCases
+  pub forward_cases : ForwardAdmits c room table vectors → ForwardCases
   unfolding forward forward_built
-  forward-cases a = go (dec_lt room (length S))
+  forward_cases a = go (dec_lt room (length S))
     where
       go : Dec (room < length S) → ForwardCases
       go (yes h) = inl (h, rw (a.0, a.1, lt-ltb room (length S) h))
@@ -106,8 +106,8 @@ module _ (c : List ℕ) (room reverseRoom : ℕ) (l : Lent) where
   abbrev O : Backward
   O = brzozowski c room reverseRoom l
 
-  abbrev pub backwardMade : Backward
-  backwardMade =
+  abbrev pub backward_made : Backward
+  backward_made =
       record {
         reply = fine (length rs ∷ length fs ∷ []);
         left =
@@ -119,19 +119,19 @@ module _ (c : List ℕ) (room reverseRoom : ℕ) (l : Lent) where
             };
       }
 
-  pub backward-admits : (n : ℕ) → (n ≡ 0) ⊎ (5 < n) → O.reply.0 ≡ n → BackwardAdmits c room reverseRoom l
+  pub backward_admits : (n : ℕ) → (n ≡ 0) ⊎ (5 < n) → O.reply.0 ≡ n → BackwardAdmits c room reverseRoom l
   unfolding brzozowski
-  backward-admits n other = admitted (λ (o : Backward). o.reply) c (backward_room c room reverseRoom l) n other _ _ _ refl refl
+  backward_admits n other = admitted (λ (o : Backward). o.reply) c (backward_room c room reverseRoom l) n other _ _ _ refl refl
 
   -- the reverse vectors outnumber their room; they fit it, and the rows outnumber theirs; all are there
   abbrev pub BackwardCases : Type 0
   BackwardCases =
       ((reverseRoom < length fs) × (O ≡ record { reply = (6, []); left = all_zeros l })) ⊎
-      ((length fs ≤ reverseRoom) × (((room < length rs) × (O ≡ record { reply = (7, []); left = all_zeros l })) ⊎ ((length rs ≤ room) × (O ≡ backwardMade))))
+      ((length fs ≤ reverseRoom) × (((room < length rs) × (O ≡ record { reply = (7, []); left = all_zeros l })) ⊎ ((length rs ≤ room) × (O ≡ backward_made))))
 
-  pub backward-cases : BackwardAdmits c room reverseRoom l → BackwardCases
+  pub backward_cases : BackwardAdmits c room reverseRoom l → BackwardCases
   unfolding brzozowski backward_built
-  backward-cases a = go (dec_lt reverseRoom (length fs)) (dec_lt room (length rs))
+  backward_cases a = go (dec_lt reverseRoom (length fs)) (dec_lt room (length rs))
     where
       go : Dec (reverseRoom < length fs) → Dec (room < length rs) → BackwardCases
       go (yes h) d = inl (h, rw (a.0, a.1, lt-ltb reverseRoom (length fs) h))

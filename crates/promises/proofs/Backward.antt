@@ -13,19 +13,19 @@ use Rattle.paper.specs.Numbering.{itself, first_words}
 use Rattle.paper.specs.Constructions.{states_of, reverse_by, reverse_states, first_row, first_row_at, row_after, row_after_at, row_grade, rows_by, row_states}
 use Rattle.paper.specs.Builders.{state_most, reverse_most, room_fits, Lent, Backward, backward_room, brzozowski}
 use Rattle.lists.proofs.Tests.{both_split}
-use Rattle.lists.proofs.ByPlace.{length-tabulate}
-use Rattle.numbering.proofs.Words.{word-append, word-reverse, after-append}
-use Rattle.numbering.proofs.Theorems.{states-at, first-words-letters, states-distinct, states-some, states-start, states-each, states-closed}
+use Rattle.lists.proofs.ByPlace.{length_tabulate}
+use Rattle.numbering.proofs.Words.{word_append, word_reverse, after_append}
+use Rattle.numbering.proofs.Theorems.{states_at, first_words_letters, states_distinct, states_some, states_start, states_each, states_closed}
 use Rattle.algebra.proofs.Checked.{Sound, sound}
-use Rattle.algebra.proofs.Vectors.{length-col, length-end, grade_low}
-use Rattle.algebra.proofs.Words.{reverse-grade, Reverses, vectorRow-at, row-of-word, row-grade}
-use Rattle.algebra.proofs.Smallest.{word_row, alike-rows, smallest}
+use Rattle.algebra.proofs.Vectors.{length_col, length_end, grade_low}
+use Rattle.algebra.proofs.Words.{reverse_grade, Reverses, vector_row_at_lem, row_of_word, row_grade_lem}
+use Rattle.algebra.proofs.Smallest.{word_row, alike_rows, smallest}
 use Rattle.promises.specs.Faithful.{of_reverse, of_rows, EveryWord, Faithful, SameFuture, SameReverse}
 use Rattle.promises.specs.Demands.{OnceBuilt, RowsFaithful, ReverseFaithful, RowsCombine, Smallest, BackwardAdmits}
 use Rattle.promises.proofs.Decides.{reverse_decides, rows_decides}
-use Rattle.promises.proofs.Placed.{placed-used, placed-vector}
+use Rattle.promises.proofs.Placed.{placed_used, placed_vector}
 use Rattle.promises.proofs.Faithful.{values_are, faithful}
-use Rattle.promises.proofs.Answers.{Room, room-facts, backwardMade, backward-admits, backward-cases}
+use Rattle.promises.proofs.Answers.{Room, room_facts, backward_made, backward_admits, backward_cases}
 
 -- ---- the reverse vectors, once they fit their room
 
@@ -33,15 +33,15 @@ reverses : (c : List ℕ) (reverseRoom : ℕ) → length (reverse_states c rever
 unfolding reverse_states states_of reverse_of
 reverses c reverseRoom fits =
     record {
-      some = states-some itself (times_col c) (letters c) reverseRoom (end_vec c);
-      first = states-start itself (times_col c) (letters c) reverseRoom (end_vec c);
-      closed = λ i x l h. states-closed itself (times_col c) (letters c) reverseRoom (end_vec c) (reverse_decides c).steps fits i l x h;
+      some = states_some itself (times_col c) (letters c) reverseRoom (end_vec c);
+      first = states_start itself (times_col c) (letters c) reverseRoom (end_vec c);
+      closed = λ i x l h. states_closed itself (times_col c) (letters c) reverseRoom (end_vec c) (reverse_decides c).steps fits i l x h;
       reached =
           λ i l. (
             get_or (first_words itself (times_col c) (letters c) reverseRoom (end_vec c)) i [],
             (
-              first-words-letters itself (times_col c) (letters c) reverseRoom (end_vec c) i l,
-              states-at itself (times_col c) (letters c) reverseRoom (end_vec c) i l,
+              first_words_letters itself (times_col c) (letters c) reverseRoom (end_vec c) i l,
+              states_at itself (times_col c) (letters c) reverseRoom (end_vec c) i l,
             ),
           );
     }
@@ -49,30 +49,30 @@ reverses c reverseRoom fits =
 reverse_length : (c : List ℕ) (reverseRoom s : ℕ) → s < length (reverse_states c reverseRoom) → length (get_or (reverse_states c reverseRoom) s []) ≡ n_of c
 unfolding reverse_states states_of
 reverse_length c reverseRoom =
-    states-each itself (times_col c) (letters c) reverseRoom (end_vec c) (λ v. length v ≡ n_of c) (length-end c) (λ x h w e. length-col c x w)
+    states_each itself (times_col c) (letters c) reverseRoom (end_vec c) (λ v. length v ≡ n_of c) (length_end c) (λ x h w e. length_col c x w)
 
 row_length : (c : List ℕ) (fs : List (List ℕ)) (room s : ℕ) → s < length (row_states c fs room) → length (get_or (row_states c fs room) s []) ≡ length fs
 unfolding row_states states_of first_row row_after
 row_length c fs room =
-    states-each
+    states_each
     itself
     (row_after c fs)
     (letters c)
     room
     (first_row c fs)
     (λ v. length v ≡ length fs)
-    (length-tabulate (length fs) (first_row_at c fs))
-    (λ x h w e. length-tabulate (length fs) (row_after_at c fs x w))
+    (length_tabulate (length fs) (first_row_at c fs))
+    (λ x h w e. length_tabulate (length fs) (row_after_at c fs x w))
 
 -- words of one row get one grade however they go on, and the other way round
 rows_alike : (c : List ℕ) (ok : Sound c) (fs : List (List ℕ)) (rev : Reverses c fs) →
     EveryWord c (λ u. EveryWord c (λ w. (word_row c fs u ≡ word_row c fs w) ↔ SameFuture c u w))
-rows_alike c ok fs rev u hu w hw = (to, alike-rows c ok fs rev u w hu hw)
+rows_alike c ok fs rev u hu w hw = (to, alike_rows c ok fs rev u w hu hw)
   where
     onward : (v : List ℕ) → Word (letters c) v → (t : List ℕ) → Word (letters c) t →
         grade_of c (v ++ t) ≡ row_grade (after (row_after c fs) (word_row c fs v) t)
     onward v hv t ht =
-        sym (row-grade c ok fs rev (v ++ t) (word-append (letters c) v t hv ht)) ∙ ap row_grade (after-append (row_after c fs) (first_row c fs) v t)
+        sym (row_grade_lem c ok fs rev (v ++ t) (word_append (letters c) v t hv ht)) ∙ ap row_grade (after_append (row_after c fs) (first_row c fs) v t)
 
     to : word_row c fs u ≡ word_row c fs w → SameFuture c u w
     to e t ht = onward u hu t ht ∙ ap (λ (r : List ℕ). row_grade (after (row_after c fs) r t)) e ∙ sym (onward w hw t ht)
@@ -94,7 +94,7 @@ module _
     rs = row_states c fs room
 
     abbrev made : Backward
-    made = backwardMade c room reverseRoom l
+    made = backward_made c room reverseRoom l
 
     ok : Sound c
     ok = sound c a.0
@@ -109,13 +109,13 @@ module _
         (room_fits state_most (letters c) reverseRoom room (length l.table) (length l.rows))
         (room_fits reverse_most (letters c) (n_of c) reverseRoom (length l.reverse_table) (length l.reverse_vectors))
         a.1 in (
-          room-facts state_most (letters c) reverseRoom room (length l.table) (length l.rows) h.0,
-          room-facts reverse_most (letters c) (n_of c) reverseRoom (length l.reverse_table) (length l.reverse_vectors) h.1,
+          room_facts state_most (letters c) reverseRoom room (length l.table) (length l.rows) h.0,
+          room_facts reverse_most (letters c) (n_of c) reverseRoom (length l.reverse_table) (length l.reverse_vectors) h.1,
         )
 
-    reverse-value : (s : ℕ) → s < length fs → (of_reverse c made).value s ≡ get_or fs s []
-    reverse-value s h =
-        placed-vector
+    reverse_value : (s : ℕ) → s < length fs → (of_reverse c made).value s ≡ get_or fs s []
+    reverse_value s h =
+        placed_vector
         (n_of c)
         (suc reverseRoom)
         fs
@@ -127,10 +127,10 @@ module _
         h
         (reverse_length c reverseRoom s h)
 
-    row-value : (s : ℕ) → s < length rs → (of_rows reverseRoom made).value s ≡ get_or rs s []
-    row-value s h =
+    row_value : (s : ℕ) → s < length rs → (of_rows reverseRoom made).value s ≡ get_or rs s []
+    row_value s h =
         rw (row_length c fs room s h) at
-        (placed-used
+        (placed_used
         reverseRoom
         (suc room)
         rs
@@ -141,17 +141,17 @@ module _
         s
         h)
 
-    reverse-made : ReverseFaithful c reverseRoom made
+    reverse_made : ReverseFaithful c reverseRoom made
     unfolding reverse_states reverse_of
-    reverse-made =
+    reverse_made =
         faithful
         c
         ok
         (reverse_by c)
         (reverse_decides c)
         (λ w. grade_of c (reverse w))
-        (reverse-grade c ok)
-        (λ w hw. grade_low c ok (reverse w) (word-reverse (letters c) w hw))
+        (reverse_grade c ok)
+        (λ w hw. grade_low c ok (reverse w) (word_reverse (letters c) w hw))
         (SameReverse c)
         (λ u hu w hw. Iff.rfl)
         reverseRoom
@@ -159,18 +159,18 @@ module _
         reverse-fits
         l.reverse_table
         (of_reverse c made).value
-        reverse-value
+        reverse_value
 
-    rows-over : Faithful c (rows_by c fs) (grade_of c) (SameFuture c) (of_rows reverseRoom made)
+    rows_over : Faithful c (rows_by c fs) (grade_of c) (SameFuture c) (of_rows reverseRoom made)
     unfolding row_states
-    rows-over =
+    rows_over =
         faithful
         c
         ok
         (rows_by c fs)
         (rows_decides c fs)
         (grade_of c)
-        (row-grade c ok fs rev)
+        (row_grade_lem c ok fs rev)
         (grade_low c ok)
         (SameFuture c)
         (rows_alike c ok fs rev)
@@ -179,20 +179,20 @@ module _
         rows_fit
         l.table
         (of_rows reverseRoom made).value
-        row-value
+        row_value
 
     rows_made : RowsFaithful c reverseRoom made
-    rows_made = rw (values_are fs (of_reverse c made).value reverse-value) rows-over
+    rows_made = rw (values_are fs (of_reverse c made).value reverse_value) rows_over
 
-    combine-made : RowsCombine c reverseRoom made
-    combine-made u hu i h =
-        ap (λ (r : List ℕ). get_or r i 0) (rows-over.leads u hu ∙ row-of-word c ok fs rev u hu)
-        ∙ vectorRow-at c fs (vector_of c u) i h
-        ∙ ap (combine c (vector_of c u)) (sym (reverse-value i h))
+    combine_made : RowsCombine c reverseRoom made
+    combine_made u hu i h =
+        ap (λ (r : List ℕ). get_or r i 0) (rows_over.leads u hu ∙ row_of_word c ok fs rev u hu)
+        ∙ vector_row_at_lem c fs (vector_of c u) i h
+        ∙ ap (combine c (vector_of c u)) (sym (reverse_value i h))
 
-    smallest-made : Smallest c reverseRoom made
+    smallest_made : Smallest c reverseRoom made
     unfolding row_states states_of
-    smallest-made rows count top fits graded =
+    smallest_made rows count top fits graded =
         smallest
         c
         ok
@@ -205,19 +205,19 @@ module _
         graded
         (length rs)
         (λ i. get_or (first_words itself (row_after c fs) (letters c) room (first_row c fs)) i [])
-        (first-words-letters itself (row_after c fs) (letters c) room (first_row c fs))
+        (first_words_letters itself (row_after c fs) (letters c) room (first_row c fs))
         (λ i j o h e.
-        let at = states-at itself (row_after c fs) (letters c) room (first_row c fs) in
-        states-distinct itself (row_after c fs) (letters c) room (first_row c fs) i j o h (at i (omega arith) ∙ e ∙ sym (at j h)))
+        let at = states_at itself (row_after c fs) (letters c) room (first_row c fs) in
+        states_distinct itself (row_after c fs) (letters c) room (first_row c fs) i j o h (at i (omega arith) ∙ e ∙ sym (at j h)))
 
 -- ---- the call
 
 once_built : (P : List ℕ → ℕ → Backward → Type 0) →
     ((c : List ℕ) (room reverseRoom : ℕ) (l : Lent) → BackwardAdmits c room reverseRoom l → length (reverse_states c reverseRoom) ≤ reverseRoom →
-    length (row_states c (reverse_states c reverseRoom) room) ≤ room → P c reverseRoom (backwardMade c room reverseRoom l)) →
+    length (row_states c (reverse_states c reverseRoom) room) ≤ room → P c reverseRoom (backward_made c room reverseRoom l)) →
     OnceBuilt brzozowski P
 once_built P holds c room reverseRoom l e =
-    let a = backward-admits c room reverseRoom l 0 (inl refl) e in
+    let a = backward_admits c room reverseRoom l 0 (inl refl) e in
     ⊎_elim
     (λ h. absurd (omega (arith, number h.1)))
     (λ h.
@@ -225,7 +225,7 @@ once_built P holds c room reverseRoom l e =
     (λ g. absurd (omega (arith, number g.1)))
     (λ g. subst (P c reverseRoom) (sym g.1) (holds c room reverseRoom l a h.0 g.0))
     h.1)
-    (backward-cases c room reverseRoom l a)
+    (backward_cases c room reverseRoom l a)
   where
     number : {o : Backward} → brzozowski c room reverseRoom l ≡ o → (brzozowski c room reverseRoom l).reply.0 ≡ o.reply.0
     number e = ap (λ (o : Backward). o.reply.0) e
@@ -234,10 +234,10 @@ pub brzozowski_faithful : OnceBuilt brzozowski RowsFaithful
 brzozowski_faithful = once_built RowsFaithful rows_made
 
 pub reverse_faithful : OnceBuilt brzozowski ReverseFaithful
-reverse_faithful = once_built ReverseFaithful reverse-made
+reverse_faithful = once_built ReverseFaithful reverse_made
 
 pub brzozowski_rows : OnceBuilt brzozowski RowsCombine
-brzozowski_rows = once_built RowsCombine combine-made
+brzozowski_rows = once_built RowsCombine combine_made
 
 pub brzozowski_smallest : OnceBuilt brzozowski Smallest
-brzozowski_smallest = once_built Smallest smallest-made
+brzozowski_smallest = once_built Smallest smallest_made

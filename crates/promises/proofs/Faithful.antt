@@ -14,17 +14,17 @@ use Rattle.paper.specs.Chart.{k_of, letters}
 use Rattle.paper.specs.Tables.{table_fits, table_fits_chart, state_of}
 use Rattle.paper.specs.Constructions.{Construction, states_of, table_of}
 use Rattle.lists.proofs.Tests.{both_true}
-use Rattle.lists.proofs.ByPlace.{tabulate-cong, tabulate-getD}
+use Rattle.lists.proofs.ByPlace.{tabulate_cong, tabulate_get_or}
 use Rattle.numbering.specs.Numbered.{word_key, Numbered, KeyDecides}
-use Rattle.numbering.proofs.Theorems.{states-at, first-words-letters, states-numbered}
+use Rattle.numbering.proofs.Theorems.{states_at, first_words_letters, states_numbered}
 use Rattle.numbering.proofs.TableBytes.{in_front_lem}
-use Rattle.numbering.proofs.Built.{construction-fits, construction-states, construction-shares, construction-grades}
+use Rattle.numbering.proofs.Built.{construction_fits, construction_states, construction_shares, construction_grades}
 use Rattle.algebra.proofs.Checked.{Sound}
 use Rattle.promises.specs.Faithful.{EveryWord, Faithful}
 
 -- values read by place are the list that they are read from
 pub values_are : (vs : List (List ℕ)) (value : ℕ → List ℕ) → ((s : ℕ) → s < length vs → value s ≡ get_or vs s []) → tabulate (length vs) value ≡ vs
-values_are vs value at = tabulate-cong (length vs) value (λ s. get_or vs s []) at ∙ tabulate-getD (length vs) vs [] refl
+values_are vs value at = tabulate_cong (length vs) value (λ s. get_or vs s []) at ∙ tabulate_get_or (length vs) vs [] refl
 
 module _
     (c : List ℕ)
@@ -52,15 +52,15 @@ module _
     abbrev rest : List ℕ
     rest = drop (length (table_of b (letters c) S)) old
 
-    state-grade-low : (s : ℕ) → s < length S → b.grade (get_or S s []) < k_of c
+    state_grade_low : (s : ℕ) → s < length S → b.grade (get_or S s []) < k_of c
     unfolding states_of
-    state-grade-low s h =
-        let w = first-words-letters b.key b.step (letters c) room b.first s h in
-        rw (states-at b.key b.step (letters c) room b.first s h, graded _ w) (low _ w)
+    state_grade_low s h =
+        let w = first_words_letters b.key b.step (letters c) room b.first s h in
+        rw (states_at b.key b.step (letters c) room b.first s h, graded _ w) (low _ w)
 
     rows_fit : table_fits rows (length S) (letters c) (k_of c) ≡ true
     rows_fit =
-        construction-fits
+        construction_fits
         b
         (letters c)
         room
@@ -73,11 +73,11 @@ module _
         (k_of c)
         ok.letters_low
         ok.letters_high
-        state-grade-low
+        state_grade_low
 
     numbered : Numbered b.key b.step (letters c) b.first S
     unfolding states_of
-    numbered = states-numbered b.key b.step (letters c) room b.first decides.steps fits
+    numbered = states_numbered b.key b.step (letters c) room b.first decides.steps fits
 
     pub faithful : Faithful c b grade alike (record { table = rows; count = length S; value = value })
     faithful =
@@ -85,13 +85,13 @@ module _
           fits =
               unfold table_fits_chart in
               both_true (eqb (letters c) (letters c)) (table_fits rows (length S) (letters c) (k_of c)) (eq-eqb (letters c) (letters c) refl) rows_fit;
-          grades = λ u w. construction-grades b (letters c) room decides small fits rows rest (in_front_lem _ _) u w ∙ graded u w;
+          grades = λ u w. construction_grades b (letters c) room decides small fits rows rest (in_front_lem _ _) u w ∙ graded u w;
           numbered = rw (values_are S value values) numbered;
           leads =
               λ u w.
-              let h = construction-states b (letters c) room decides small fits rows rest (in_front_lem _ _) u w in
+              let h = construction_states b (letters c) room decides small fits rows rest (in_front_lem _ _) u w in
               ap b.key (values (state_of rows (letters c) u) h.0) ∙ h.1;
           shares =
               λ u hu w hw.
-              Iff.trans (construction-shares b (letters c) room decides small fits rows rest (in_front_lem _ _) u w hu hw) (same u hu w hw);
+              Iff.trans (construction_shares b (letters c) room decides small fits rows rest (in_front_lem _ _) u w hu hw) (same u hu w hw);
         }

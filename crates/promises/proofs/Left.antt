@@ -13,7 +13,7 @@ use Rattle.promises.specs.Demands.{Builder, ForwardFaithful}
 use Rattle.promises.specs.Left.{GradesAll, ForwardLeaves, BrzozowskiLeaves, AcceptsTrue, AcceptsHonest, AcceptsNoFalse}
 use Rattle.replies.proofs.Said.{verdict_one}
 use Rattle.algebra.proofs.SheetSound.{accepted}
-use Rattle.algebra.proofs.Tables.{chart-letters}
+use Rattle.algebra.proofs.Tables.{chart_letters}
 use Rattle.promises.proofs.Forward.{nerode_faithful, reduced_faithful}
 use Rattle.promises.proofs.Backward.{brzozowski_faithful, brzozowski_smallest}
 use Rattle.promises.proofs.Sheets.{sheet_sound, sheet_complete}
@@ -48,7 +48,7 @@ brzozowski_leaves c room reverseRoom lent left count reverse e =
 pub sheet_accepts_true : AcceptsTrue
 sheet_accepts_true c rows count m sheet lines r e a u w =
     let zero = ap (λ (o : Reply). o.0) (sym e ∙ ap verdict_said a) in
-    let same : m ≡ letters c = chart-letters c rows count m (accepted c rows count m sheet lines zero).table in
+    let same : m ≡ letters c = chart_letters c rows count m (accepted c rows count m sheet lines zero).table in
     rw (← same) (sheet_sound c rows count m sheet lines zero u (rw same w))
 
 pub sheet_accepts_honest : AcceptsHonest

@@ -18,7 +18,7 @@ use Rattle.paper.specs.Check.{sizes_fit, head_fits, check_reply}
 use Rattle.pages.specs.Frames.{payload, frame_fits}
 use Rattle.pages.specs.Texts.{Filled, Lines, bad_line, bad_head, width_of, dues, lines_after, text_most, chart_most, lines_of_text, chart_read, lines_read, read_chart}
 use Rattle.chart.proofs.Ranges.{sizes_are}
-use Rattle.chart.proofs.Checked.{shaped, fits-fine, fits_refused}
+use Rattle.chart.proofs.Checked.{shaped, fits_fine, fits_refused}
 use Rattle.dues.specs.declared.Counts.{Counts}
 use Rattle.dues.specs.declared.Rule.{Rule}
 use Rattle.rest_lines.specs.declared.Frames.{Frames}
@@ -27,7 +27,7 @@ use Rattle.rest_lines.specs.Reading.{RestIn, rest_lines, ChartRead, LinesSay}
 use Rattle.reading.specs.Zeroed.{zeroed_by}
 use Rattle.lists.proofs.Lent.{length_in_front}
 use Rattle.lists.proofs.Front.{front_front}
-use Rattle.frames.proofs.FrameRead.{frame-inside, length_payload}
+use Rattle.frames.proofs.FrameRead.{frame_inside, length_payload}
 
 -- ---- the head
 
@@ -36,13 +36,13 @@ unfolding width_of
 head_width s r e = e.width_is
 
 module _ (text : List ℕ) where
-  pub text-long : text_most < length text → lines_of_text text ≡ bad_line 0
+  pub text_long : text_most < length text → lines_of_text text ≡ bad_line 0
   unfolding lines_of_text
-  text-long h = simp (lines_of_text, lt-leb (length text) text_most h)
+  text_long h = simp (lines_of_text, lt-leb (length text) text_most h)
 
-  pub text-first : length text ≤ text_most → (w : ℕ) → w ≡ head_size → frame_fits 0x01 w text 0 ≡ false → lines_of_text text ≡ bad_line 1
+  pub text_first : length text ≤ text_most → (w : ℕ) → w ≡ head_size → frame_fits 0x01 w text 0 ≡ false → lines_of_text text ≡ bad_line 1
   unfolding lines_of_text
-  text-first short w q e = simp (lines_of_text, le-leb (length text) text_most short, rw q at e)
+  text_first short w q e = simp (lines_of_text, le-leb (length text) text_most short, rw q at e)
 
 -- a text's first line is a head, whose bytes stand in front of the buffer
 pub record HeadRead (text old buf : List ℕ) : Type 0 where
@@ -57,18 +57,18 @@ module _ {text old buf : List ℕ} (r : HeadRead text old buf) where
   head : List ℕ
   head = payload head_size text 0
 
-  length-head : length head ≡ head_size
+  length_head : length head ≡ head_size
   unfolding head
-  length-head = length_payload head_size text 0
+  length_head = length_payload head_size text 0
 
   -- its bytes, as they are read off the buffer
   byte : (i x : ℕ) → i < head_size → x ≡ get_or buf i 0 → x ≡ get_or head i 0
   unfolding in_front head
-  byte i x l z = z ∙ ap (λ (b : List ℕ). get_or b i 0) r.front ∙ get_or-append head (drop (length head) old) 0 i (rw length-head l)
+  byte i x l z = z ∙ ap (λ (b : List ℕ). get_or b i 0) r.front ∙ get_or-append head (drop (length head) old) 0 i (rw length_head l)
 
-  after-head : lines_of_text text ≡ lines_after head text
+  after_head : lines_of_text text ≡ lines_after head text
   unfolding lines_of_text head
-  after-head = simp (lines_of_text, le-leb (length text) text_most r.short, r.fits)
+  after_head = simp (lines_of_text, le-leb (length text) text_most r.short, r.fits)
 
   module _ (k e n m : ℕ) (ek : k ≡ get_or buf 0 0) (ee : e ≡ get_or buf 1 0) (en : n ≡ get_or buf 2 0) (em : m ≡ get_or buf 3 0) where
     sizes : sizes_fit k e n m ≡ head_fits head
@@ -78,7 +78,7 @@ module _ {text old buf : List ℕ} (r : HeadRead text old buf) where
     -- its sizes are out of range
     pub text_head : sizes_fit k e n m ≡ false → lines_of_text text ≡ bad_head
     unfolding lines_after
-    text_head f = after-head ∙ simp (lines_after, sym sizes ∙ f)
+    text_head f = after_head ∙ simp (lines_after, sym sizes ∙ f)
 
     -- they are not: the other lines may be read
     module _ (f : sizes_fit k e n m ≡ true) where
@@ -88,7 +88,7 @@ module _ {text old buf : List ℕ} (r : HeadRead text old buf) where
           let l : length buf ≡ length old = ap length r.front ∙ length_in_front (payload head_size text 0) old (omega (arith, length_payload head_size text 0)) in
           record {
             short = r.short;
-            first = frame-inside 0x01 head_size text 0 r.fits;
+            first = frame_inside 0x01 head_size text 0 r.fits;
             room = omega arith;
             few = record { grades = s.k_high; states = s.n_high; letters = s.m_high };
             grades = omega (arith, s.k_low);
@@ -96,20 +96,20 @@ module _ {text old buf : List ℕ} (r : HeadRead text old buf) where
             letters = s.m_low;
           }
 
-      rest-is : rest_lines text (record { k = k; n = n; m = m }) buf ≡ lines_of_text text
+      rest_is : rest_lines text (record { k = k; n = n; m = m }) buf ≡ lines_of_text text
       unfolding lines_after dues in_front head
-      rest-is =
+      rest_is =
           sym
-          (after-head
+          (after_head
           ∙ simp (lines_after, sym sizes ∙ f)
-          (sym (rw (byte 0 k (omega arith) ek, byte 2 n (omega arith) en, byte 3 m (omega arith) em, r.front, take_at head (drop (length head) old) head_size length-head))))
+          (sym (rw (byte 0 k (omega arith) ek, byte 2 n (omega arith) en, byte 3 m (omega arith) em, r.front, take_at head (drop (length head) old) head_size length_head))))
 
       -- and say what the text comes to
-      pub rest-says : (new : List ℕ) (a : Frames) → LinesSay (rest_lines text (record { k = k; n = n; m = m }) buf) buf new a → LinesSay (lines_of_text text) old new a
-      rest-says new (Frames.Chart size) h =
+      pub rest_says : (new : List ℕ) (a : Frames) → LinesSay (rest_lines text (record { k = k; n = n; m = m }) buf) buf new a → LinesSay (lines_of_text text) old new a
+      rest_says new (Frames.Chart size) h =
           record {
             bytes = h.bytes;
-            lines_are = sym rest-is ∙ h.lines_are;
+            lines_are = sym rest_is ∙ h.lines_are;
             size_is = h.size_is;
             headed = h.headed;
             front =
@@ -117,8 +117,8 @@ module _ {text old buf : List ℕ} (r : HeadRead text old buf) where
                 ∙ ap (λ (b : List ℕ). in_front h.bytes b) r.front
                 ∙ front_front h.bytes (payload head_size text 0) old (omega (arith, h.headed, h.size_is, length_payload head_size text 0));
           }
-      rest-says new (Frames.BadLine line) h = sym rest-is ∙ h
-      rest-says new Frames.BadHead h = sym rest-is ∙ h
+      rest_says new (Frames.BadLine line) h = sym rest_is ∙ h
+      rest_says new Frames.BadHead h = sym rest_is ∙ h
 
 -- ---- the chart that was read
 
@@ -127,54 +127,54 @@ module _ (lines : Lines) (old new : List ℕ) (kept : length new ≡ length old)
   zeroed : zeros new ≡ zeros old
   zeroed = rw kept
 
-  said-as : {b : Frames} → a ≡ b → LinesSay lines old new b
-  said-as e = subst (λ f. LinesSay lines old new f) e says
+  said_as : {b : Frames} → a ≡ b → LinesSay lines old new b
+  said_as e = subst (λ f. LinesSay lines old new f) e says
 
-  pub whole-line : (line : ℕ) → a ≡ Frames.BadLine line → ◌≡◌ {A = Filled} (record { reply = (14, line ∷ []); buffer = zeros new }) (lines_read lines old)
+  pub whole_line : (line : ℕ) → a ≡ Frames.BadLine line → ◌≡◌ {A = Filled} (record { reply = (14, line ∷ []); buffer = zeros new }) (lines_read lines old)
   unfolding lines_read
-  whole-line line e = let q : lines ≡ bad_line line = said-as e in rw (q, zeroed)
+  whole_line line e = let q : lines ≡ bad_line line = said_as e in rw (q, zeroed)
 
-  pub whole-head : a ≡ Frames.BadHead → ◌≡◌ {A = Filled} (record { reply = (1, []); buffer = zeros new }) (lines_read lines old)
+  pub whole_head : a ≡ Frames.BadHead → ◌≡◌ {A = Filled} (record { reply = (1, []); buffer = zeros new }) (lines_read lines old)
   unfolding lines_read
-  whole-head e = let q : lines ≡ bad_head = said-as e in rw (q, zeroed)
+  whole_head e = let q : lines ≡ bad_head = said_as e in rw (q, zeroed)
 
   module _ (size : ℕ) (e : a ≡ Frames.Chart size) where
     read : ChartRead lines old new size
-    read = said-as e
+    read = said_as e
 
-    pub size-inside : size ≤ length new
+    pub size_inside : size ≤ length new
     unfolding in_front
-    size-inside = omega (arith, read.size_is, ap length read.front, length-append read.bytes (drop (length read.bytes) old))
+    size_inside = omega (arith, read.size_is, ap length read.front, length-append read.bytes (drop (length read.bytes) old))
 
     module _ (r : Checked) (reply : checked_said r ≡ check_reply (take size new)) where
-      bytes-are : take size new ≡ read.bytes
+      bytes_are : take size new ≡ read.bytes
       unfolding in_front
-      bytes-are = ap (λ (b : List ℕ). take size b) read.front ∙ take_at read.bytes (drop (length read.bytes) old) size (sym read.size_is)
+      bytes_are = ap (λ (b : List ℕ). take size b) read.front ∙ take_at read.bytes (drop (length read.bytes) old) size (sym read.size_is)
 
       checked : checked_said r ≡ check_reply read.bytes
-      checked = reply ∙ ap check_reply bytes-are
+      checked = reply ∙ ap check_reply bytes_are
 
-      pub whole-fine : (s : Shape) → r ≡ Checked.Fine s → ◌≡◌ {A = Filled} (record { reply = (0, s.size ∷ []); buffer = new }) (lines_read lines old)
+      pub whole_fine : (s : Shape) → r ≡ Checked.Fine s → ◌≡◌ {A = Filled} (record { reply = (0, s.size ∷ []); buffer = new }) (lines_read lines old)
       unfolding lines_read chart_read
-      whole-fine s f = rw (read.lines_are, fits-fine read.bytes checked f, (shaped read.bytes checked f).size_is, ← read.front)
+      whole_fine s f = rw (read.lines_are, fits_fine read.bytes checked f, (shaped read.bytes checked f).size_is, ← read.front)
 
-      pub whole-refused : (why : Refusal) → r ≡ Checked.Refused why → ◌≡◌ {A = Filled} (record { reply = said why; buffer = zeros new }) (lines_read lines old)
+      pub whole_refused : (why : Refusal) → r ≡ Checked.Refused why → ◌≡◌ {A = Filled} (record { reply = said why; buffer = zeros new }) (lines_read lines old)
       unfolding lines_read chart_read
-      whole-refused why f = rw (read.lines_are, fits_refused read.bytes checked f, ← checked, f, zeroed)
+      whole_refused why f = rw (read.lines_are, fits_refused read.bytes checked f, ← checked, f, zeroed)
 
 -- ---- the answer
 module _ (text old : List ℕ) where
-  pub short-read : length old < chart_most → ◌≡◌ {A = Filled} (record { reply = (5, []); buffer = old }) (read_chart text old)
+  pub short_read : length old < chart_most → ◌≡◌ {A = Filled} (record { reply = (5, []); buffer = old }) (read_chart text old)
   unfolding read_chart
-  short-read h = simp (lt-leb chart_most (length old) h)
+  short_read h = simp (lt-leb chart_most (length old) h)
 
   module _ (room : chart_most ≤ length old) (a : Written) (new : List ℕ) (says : ◌≡◌ {A = Filled} (record { reply = written_said a; buffer = zeroed_by a new }) (lines_read (lines_of_text text) old)) where
-    long-read : read_chart text old ≡ lines_read (lines_of_text text) old
+    long_read : read_chart text old ≡ lines_read (lines_of_text text) old
     unfolding read_chart
-    long-read = simp (le-leb chart_most (length old) room)
+    long_read = simp (le-leb chart_most (length old) room)
 
-    pub chart-read : (size : ℕ) → a ≡ Written.Bytes size → ◌≡◌ {A = Filled} (record { reply = (0, size ∷ []); buffer = new }) (read_chart text old)
-    chart-read size e = (rw e at says) ∙ sym long-read
+    pub chart_read_lem : (size : ℕ) → a ≡ Written.Bytes size → ◌≡◌ {A = Filled} (record { reply = (0, size ∷ []); buffer = new }) (read_chart text old)
+    chart_read_lem size e = (rw e at says) ∙ sym long_read
 
-    pub chart-refused : (why : Refusal) → a ≡ Written.Refused why → (zero : List ℕ) → zero ≡ zeros new → ◌≡◌ {A = Filled} (record { reply = said why; buffer = zero }) (read_chart text old)
-    chart-refused why e zero z = rw z ((rw e at says) ∙ sym long-read)
+    pub chart_refused : (why : Refusal) → a ≡ Written.Refused why → (zero : List ℕ) → zero ≡ zeros new → ◌≡◌ {A = Filled} (record { reply = said why; buffer = zero }) (read_chart text old)
+    chart_refused why e zero z = rw z ((rw e at says) ∙ sym long_read)

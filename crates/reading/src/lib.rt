@@ -1,4 +1,6 @@
 // Reading a chart's text.
+#![tactic(auto)]
+
 ghost use Rattle.std.specs.Prelude.{◌≡◌, ◌≤◌, length};
 ghost use Rattle.replies.specs.Replies.{written_said};
 ghost use Rattle.pages.specs.Texts.{Filled, chart_most, lines_of_text, lines_read, read_chart};

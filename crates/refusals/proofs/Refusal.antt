@@ -7,13 +7,13 @@ use borrow.Author.Tests.{le-leb, lt-leb}
 use Rattle.paper.specs.Lists.{in_front}
 use Rattle.pages.specs.Frames.{frame, line_length}
 use Rattle.pages.specs.Texts.{Filled, printed, refusal_text, print_refusal}
-use Rattle.frames.proofs.FrameWritten.{length-frame}
+use Rattle.frames.proofs.FrameWritten.{length_frame}
 
 module _ (number : ℕ) (old : List ℕ) where
-  pub refusal-room : length old < line_length 1 → ◌≡◌ {A = Filled} (record { reply = (5, []); buffer = old }) (print_refusal number old)
+  pub refusal_room : length old < line_length 1 → ◌≡◌ {A = Filled} (record { reply = (5, []); buffer = old }) (print_refusal number old)
   unfolding print_refusal
-  refusal-room h = simp (lt-leb (line_length 1) (length old) h)
+  refusal_room h = simp (lt-leb (line_length 1) (length old) h)
 
-  pub refusal-printed : line_length 1 ≤ length old → (new : List ℕ) → new ≡ in_front (frame 0x7f (number ∷ [])) old → ◌≡◌ {A = Filled} (record { reply = (0, 9 ∷ []); buffer = new }) (print_refusal number old)
+  pub refusal_printed : line_length 1 ≤ length old → (new : List ℕ) → new ≡ in_front (frame 0x7f (number ∷ [])) old → ◌≡◌ {A = Filled} (record { reply = (0, 9 ∷ []); buffer = new }) (print_refusal number old)
   unfolding print_refusal printed refusal_text
-  refusal-printed h new e = simp (le-leb (line_length 1) (length old) h, e, length-frame)
+  refusal_printed h new e = simp (le-leb (line_length 1) (length old) h, e, length_frame)

@@ -1,4 +1,6 @@
 // Printing a refusal.
+#![tactic(auto)]
+
 ghost use Rattle.std.specs.Prelude.{◌≡◌};
 ghost use Rattle.replies.specs.Replies.{written_said};
 ghost use Rattle.pages.specs.Texts.{Filled, print_refusal};

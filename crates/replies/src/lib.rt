@@ -1,9 +1,11 @@
 // What the calls answer. `specs/Replies.antt` gives document 01's number and values for each case.
+#![tactic(auto)]
+
 ghost use Rattle.std.specs.Prelude.{◌≡◌};
 ghost use Rattle.replies.specs.Replies.{said};
 
 // Why a call is refused: document 01's refusals 1 to 14, in its order.
-#[derive(Drop)]
+#[derive(Clone, Copy)]
 pub enum Refusal {
     // 1: k, e, n or m is out of range
     Sizes,
@@ -50,7 +52,7 @@ pub enum Refusal {
 }
 
 // Sizes of a chart that is not refused, how many letters its words may use, and where its parts begin: worked out once.
-#[derive(Drop)]
+#[derive(Clone, Copy)]
 pub struct Shape {
     pub k: usize,
     pub e: usize,
@@ -66,49 +68,49 @@ pub struct Shape {
 }
 
 // What the chart check answers.
-#[derive(Drop)]
+#[derive(Clone, Copy)]
 pub enum Checked {
     Fine(Shape),
     Refused(Refusal),
 }
 
 // What the table check and the sheet check answer.
-#[derive(Drop)]
+#[derive(Clone, Copy)]
 pub enum Verdict {
     Accepted,
     Refused(Refusal),
 }
 
 // What the Nerode and the reduced builder answer: the state count.
-#[derive(Drop)]
+#[derive(Clone, Copy)]
 pub enum Built {
     States(usize),
     Refused(Refusal),
 }
 
 // What the Brzozowski builder answers: the state count and the reverse count.
-#[derive(Drop)]
+#[derive(Clone, Copy)]
 pub enum BuiltBoth {
     States(usize, usize),
     Refused(Refusal),
 }
 
 // What a step answers: the next state.
-#[derive(Drop)]
+#[derive(Clone, Copy)]
 pub enum Stepped {
     Next(u16),
     Refused(Refusal),
 }
 
 // What asking for the grade of a state, of a word, or for the cap answers.
-#[derive(Drop)]
+#[derive(Clone, Copy)]
 pub enum Graded {
     Grade(u8),
     Refused(Refusal),
 }
 
 // What reading or printing answers: how many bytes were written.
-#[derive(Drop)]
+#[derive(Clone, Copy)]
 pub enum Written {
     Bytes(usize),
     Refused(Refusal),

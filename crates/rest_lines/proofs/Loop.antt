@@ -23,7 +23,7 @@ use Rattle.dues.specs.Dues.{Ruled, Stepping, behind_line}
 use Rattle.rest_lines.specs.Reading.{RestIn, rest_lines, ChartRead}
 use Rattle.lists.proofs.Lent.{length_in_front}
 use Rattle.lists.proofs.Front.{front_more}
-use Rattle.frames.proofs.FrameRead.{bad_kind, frame-inside, length_payload}
+use Rattle.frames.proofs.FrameRead.{bad_kind, frame_inside, length_payload}
 use Rattle.dues.proofs.Dues.{rest_dues, rest_line, rest_next, rest_end, lines_over, lines_some, sum_due, bytes_due, bytes_few}
 
 -- the lines of ds are due at a line and a place of the text, behind the bytes in front of the buffer; all in all they come to `total`
@@ -49,26 +49,26 @@ module _ {text : List ℕ} {total : Lines} {old buf : List ℕ} {line pos at : �
       record { bytes = r.done; lines_are = sym (simp (le-leb (length text) pos h) at r.rest); size_is = r.placed; headed = r.headed; front = r.front }
 
   -- it does not end
-  pub read-over : Reading text total old buf [] line pos at → pos < length text → total ≡ bad_line line
+  pub read_over : Reading text total old buf [] line pos at → pos < length text → total ≡ bad_line line
   unfolding lines_from
-  read-over r h = sym (simp (lt-leb (length text) pos h) at r.rest)
+  read_over r h = sym (simp (lt-leb (length text) pos h) at r.rest)
 
   module _ {kind w : ℕ} {ds : List (ℕ × ℕ)} (r : Reading text total old buf ((kind, w) ∷ ds) line pos at) where
     -- the line is not the frame due
-    read-bad : frame_fits kind w text pos ≡ false → total ≡ bad_line line
+    read_bad : frame_fits kind w text pos ≡ false → total ≡ bad_line line
     unfolding lines_from
-    read-bad e = sym (simp e at r.rest)
+    read_bad e = sym (simp e at r.rest)
 
     -- it is
-    read-line : (part : List ℕ) → frame_fits kind w text pos ≡ true → part ≡ in_front (payload w text pos) (mid_of at (length buf - at) buf) → Reading text total old (put_mid at (length buf - at) buf part) ds (line + 1) (pos + line_length w) (at + w)
+    read_line : (part : List ℕ) → frame_fits kind w text pos ≡ true → part ≡ in_front (payload w text pos) (mid_of at (length buf - at) buf) → Reading text total old (put_mid at (length buf - at) buf part) ds (line + 1) (pos + line_length w) (at + w)
     unfolding lines_from sum_due
-    read-line part e q =
+    read_line part e q =
         record {
           done = r.done ++ payload w text pos;
           placed = omega (arith, length-append r.done (payload w text pos), length_payload w text pos, r.placed);
           headed = omega (arith, r.headed);
           front = front_more r.done (payload w text pos) old buf part at r.placed r.front q;
-          within = frame-inside kind w text pos e;
+          within = frame_inside kind w text pos e;
           low = omega (arith, r.low);
           fits = omega (arith, r.fits);
           rest = simp e at r.rest;
@@ -112,44 +112,44 @@ loop_start text old s r =
     }
 
 module _ {text old : List ℕ} {s : Counts} {buf : List ℕ} {c : Cursor} (r : Looped text old s buf c) where
-  pub loop-kept : length buf ≡ length old
-  loop-kept = read_kept r.reading r.ranges.room
+  pub loop_kept : length buf ≡ length old
+  loop_kept = read_kept r.reading r.ranges.room
 
   -- no line is due
-  pub loop-end : c.left ≡ 0 → Reading text (rest_lines text s old) old buf [] c.line c.pos c.at
-  loop-end q =
+  pub loop_end : c.left ≡ 0 → Reading text (rest_lines text s old) old buf [] c.line c.pos c.at
+  loop_end q =
       subst (λ ds. Reading text (rest_lines text s old) old buf ds c.line c.pos c.at)
       (rest_end s c.kind c.left (omega (arith, r.high, r.ends)) q)
       r.reading
 
   -- a line is due, of a kind that is not the one found
   module _ (l : 0 < c.left) where
-    due-line : Reading text (rest_lines text s old) old buf ((c.kind, width_of s.k s.n c.kind) ∷ rest_dues s c.kind (c.left - 1)) c.line c.pos c.at
-    due-line = subst (λ ds. Reading text (rest_lines text s old) old buf ds c.line c.pos c.at) (rest_line s c.kind c.left l) r.reading
+    due_line : Reading text (rest_lines text s old) old buf ((c.kind, width_of s.k s.n c.kind) ∷ rest_dues s c.kind (c.left - 1)) c.line c.pos c.at
+    due_line = subst (λ ds. Reading text (rest_lines text s old) old buf ds c.line c.pos c.at) (rest_line s c.kind c.left l) r.reading
 
-    pub loop-other : (kind : ℕ) → kind ≡ byte_at text c.pos → (kind ≡ c.kind → ⊥) → rest_lines text s old ≡ bad_line c.line
-    loop-other kind q h = read-bad due-line (sym (bad_kind c.kind _ text c.pos kind q h))
+    pub loop_other : (kind : ℕ) → kind ≡ byte_at text c.pos → (kind ≡ c.kind → ⊥) → rest_lines text s old ≡ bad_line c.line
+    loop_other kind q h = read_bad due_line (sym (bad_kind c.kind _ text c.pos kind q h))
 
     -- of the kind found, which goes by a rule
     module _ (kind : ℕ) (same : kind ≡ c.kind) (due : Rule) (ruled : Ruled s kind due) where
       line : Reading text (rest_lines text s old) old buf ((kind, due.width) ∷ rest_dues s c.kind (c.left - 1)) c.line c.pos c.at
-      line = rw (ruled.width_is, same) due-line
+      line = rw (ruled.width_is, same) due_line
 
       -- there is room for its bytes, and no number on the way is too large
-      pub loop-room : c.at + due.width ≤ length buf
+      pub loop_room : c.at + due.width ≤ length buf
       unfolding sum_due
-      loop-room = omega (arith, line.fits, loop-kept, r.ranges.room)
+      loop_room = omega (arith, line.fits, loop_kept, r.ranges.room)
 
-      pub loop-frame : FrameIn c.pos due.width (mid_of c.at (length buf - c.at) buf)
-      loop-frame =
+      pub loop_frame : FrameIn c.pos due.width (mid_of c.at (length buf - c.at) buf)
+      loop_frame =
           record {
             near = record { place = omega (arith, line.within, r.ranges.short); width = omega (arith, ruled.small) };
-            room = simp (length-take, length-drop) (omega (arith, loop-room));
+            room = simp (length-take, length-drop) (omega (arith, loop_room));
           }
 
-      pub loop-step : Stepping c due s
+      pub loop_step : Stepping c due s
       unfolding sum_due
-      loop-step =
+      loop_step =
           record {
             ruled = rw same at ruled;
             few = r.ranges.few;
@@ -160,24 +160,24 @@ module _ {text old : List ℕ} {s : Counts} {buf : List ℕ} {c : Cursor} (r : L
           }
 
       -- it is not the frame due
-      pub loop-bad : frame_fits kind due.width text c.pos ≡ false → rest_lines text s old ≡ bad_line c.line
-      loop-bad e = read-bad line e
+      pub loop_bad : frame_fits kind due.width text c.pos ≡ false → rest_lines text s old ≡ bad_line c.line
+      loop_bad e = read_bad line e
 
       -- it is
       module _ (e : frame_fits kind due.width text c.pos ≡ true) where
         wide : width_of s.k s.n c.kind ≡ due.width
         wide = sym (ruled.width_is ∙ rw same)
 
-        pub loop-falls : length text - (behind_line s c).pos < length text - c.pos
+        pub loop_falls : length text - (behind_line s c).pos < length text - c.pos
         unfolding behind_line
-        loop-falls = rw wide (omega (arith, frame-inside kind due.width text c.pos e))
+        loop_falls = rw wide (omega (arith, frame_inside kind due.width text c.pos e))
 
-        pub loop-line : (part : List ℕ) → part ≡ in_front (payload due.width text c.pos) (mid_of c.at (length buf - c.at) buf) → Looped text old s (put_mid c.at (length buf - c.at) buf part) (behind_line s c)
+        pub loop_line : (part : List ℕ) → part ≡ in_front (payload due.width text c.pos) (mid_of c.at (length buf - c.at) buf) → Looped text old s (put_mid c.at (length buf - c.at) buf part) (behind_line s c)
         unfolding behind_line
-        loop-line part p = rw wide (go (ltb 1 c.left) refl)
+        loop_line part p = rw wide (go (ltb 1 c.left) refl)
           where
             next : Reading text (rest_lines text s old) old (put_mid c.at (length buf - c.at) buf part) (rest_dues s c.kind (c.left - 1)) (c.line + 1) (c.pos + line_length due.width) (c.at + due.width)
-            next = read-line line part e p
+            next = read_line line part e p
 
             k6 : c.kind ≤ 6
             k6 = r.more l

@@ -1,4 +1,6 @@
 // The lines of a chart's text behind its head.
+#![tactic(auto)]
+
 ghost use Rattle.rest_lines.specs.Reading.{RestIn, rest_lines, LinesSay};
 
 use dues::{Counts, Cursor, behind, rule_of};
@@ -6,7 +8,7 @@ use frames::digits::byte_at;
 use frames::read_frame;
 
 // What reading lines comes to: a chart's bytes, so many of them; the first line that is not the frame due there; a head out of range.
-#[derive(Drop)]
+#[derive(Clone, Copy)]
 pub enum Frames {
     Chart(usize),
     BadLine(usize),

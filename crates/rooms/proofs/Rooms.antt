@@ -13,27 +13,27 @@ use Rattle.paper.specs.Builders.{room_fits}
 use Rattle.lists.proofs.Tests.{both_split, both_true, both_not_left, both_not_right}
 
 module _ (most m w room table values : ℕ) where
-  pub room-none : room < 1 → false ≡ room_fits most m w room table values
+  pub room_none : room < 1 → false ≡ room_fits most m w room table values
   unfolding room_fits both
-  room-none h = simp (lt-leb 1 room h)
+  room_none h = simp (lt-leb 1 room h)
 
-  pub room-over : most < room → false ≡ room_fits most m w room table values
+  pub room_over : most < room → false ≡ room_fits most m w room table values
   unfolding room_fits
-  room-over h = sym (both_not_left _ _ (both_not_right _ _ (lt-leb room most h)))
+  room_over h = sym (both_not_left _ _ (both_not_right _ _ (lt-leb room most h)))
 
-  pub table-short : table < room * row_size m → false ≡ room_fits most m w room table values
+  pub table_short : table < room * row_size m → false ≡ room_fits most m w room table values
   unfolding room_fits
-  table-short h = sym (both_not_right _ _ (both_not_left _ _ (lt-leb (room * row_size m) table h)))
+  table_short h = sym (both_not_right _ _ (both_not_left _ _ (lt-leb (room * row_size m) table h)))
 
-  pub values-short : values < (room + 1) * w → false ≡ room_fits most m w room table values
+  pub values_short : values < (room + 1) * w → false ≡ room_fits most m w room table values
   unfolding room_fits
-  values-short h =
+  values_short h =
       let e : (room + 1) * w ≡ suc room * w = ap (λ k. k * w) (add-one room) in
       sym (both_not_right _ _ (both_not_right _ _ (lt-leb (suc room * w) values (omega arith))))
 
-  pub room-good : 1 ≤ room → room ≤ most → room * row_size m ≤ table → (room + 1) * w ≤ values → true ≡ room_fits most m w room table values
+  pub room_good : 1 ≤ room → room ≤ most → room * row_size m ≤ table → (room + 1) * w ≤ values → true ≡ room_fits most m w room table values
   unfolding room_fits
-  room-good a b d f =
+  room_good a b d f =
       let e : (room + 1) * w ≡ suc room * w = ap (λ k. k * w) (add-one room) in
       sym
       (both_true _ _ (both_true _ _ (le-leb 1 room a) (le-leb room most b))

@@ -1,4 +1,6 @@
 // Whether a room fits, and rows and places for it are lent.
+#![tactic(auto)]
+
 ghost use Rattle.std.specs.Prelude.{◌≡◌, ◌≤◌};
 ghost use Rattle.paper.specs.Builders.{room_fits};
 

@@ -17,11 +17,11 @@ use Rattle.paper.specs.Constructions.{states_of, table_of, reverse_by, reverse_s
 use Rattle.paper.specs.Builders.{room_fits, state_most, reverse_most, all_zeros, backward_room, backward_built, brzozowski, placed}
 use Rattle.replies.specs.declared.Shape.{Shape}
 use Rattle.lists.proofs.Tests.{both_split}
-use Rattle.lists.proofs.ByPlace.{tabulate-cong}
-use Rattle.numbering.proofs.Theorems.{states-some, states-each, states-closed}
-use Rattle.numbering.proofs.TableBytes.{in_front_lem, grade-back, next-back}
+use Rattle.lists.proofs.ByPlace.{tabulate_cong}
+use Rattle.numbering.proofs.Theorems.{states_some, states_each, states_closed}
+use Rattle.numbering.proofs.TableBytes.{in_front_lem, grade_back, next_back}
 use Rattle.algebra.proofs.Checked.{sound}
-use Rattle.algebra.proofs.Vectors.{Grades, start-grades, end-grades, col-grades, combine-low}
+use Rattle.algebra.proofs.Vectors.{Grades, start_grades, end_grades, col_grades, combine_low}
 use Rattle.cells.specs.Shaped.{Shaped}
 use Rattle.kinds.specs.Kinds.{grades_in, next_row, next_row_at, made}
 use Rattle.kinds.specs.Ready.{Reverses}
@@ -32,8 +32,8 @@ use Rattle.kinds.specs.declared.Plan.{Plan}
 use Rattle.nexts.specs.declared.Grown.{Grown}
 use Rattle.nexts.specs.declared.Grown.TheVariants.{Held, Full}
 use Rattle.rooms.proofs.Rooms.{Roomy, roomy}
-use Rattle.walk.proofs.VectorPlan.{vector_plan, vector-asks}
-use Rattle.row_build.proofs.SameSteps.{states-same, table_same}
+use Rattle.walk.proofs.VectorPlan.{vector_plan, vector_asks}
+use Rattle.row_build.proofs.SameSteps.{states_same, table_same}
 
 -- the plan for the rows over `count` reverse vectors
 abbrev pub rows_plan : Shape → ℕ → ℕ → ℕ → Plan
@@ -53,15 +53,15 @@ module _ (c : List ℕ) (s : Shape) (fits : chart_fits c ≡ true) (h : Shaped c
   unfolding backward_room
   back_fits = rw (h.letters_is, h.n_is) (both_split _ _ ok).1
 
-  back-rooms : Roomy reverse_most s.letters s.n reverse (length rt) (length rv)
-  back-rooms = roomy _ _ _ _ _ _ back_fits
+  back_rooms : Roomy reverse_most s.letters s.n reverse (length rt) (length rv)
+  back_rooms = roomy _ _ _ _ _ _ back_fits
 
-  pub back-asks : GrowAsks (vector_plan Kind.Reverse s reverse) c c rt rv
-  back-asks = vector-asks Kind.Reverse c s refl fits h reverse_most reverse c rt rv (omega arith) back_fits
+  pub back_asks : GrowAsks (vector_plan Kind.Reverse s reverse) c c rt rv
+  back_asks = vector_asks Kind.Reverse c s refl fits h reverse_most reverse c rt rv (omega arith) back_fits
 
-  back-states : states_by (vector_plan Kind.Reverse s reverse) c c ≡ fs
+  back_states : states_by (vector_plan Kind.Reverse s reverse) c c ≡ fs
   unfolding reverse_states
-  back-states = rw h.letters_is
+  back_states = rw h.letters_is
 
   module _ (rt' rv' : List ℕ) (r : Grown) (m : MadeAs (vector_plan Kind.Reverse s reverse) c c rt rt' rv rv' r) where
     -- too many reverse vectors
@@ -69,7 +69,7 @@ module _ (c : List ℕ) (s : Shape) (fits : chart_fits c ≡ true) (h : Shaped c
         record { reply = (6, []); left = lent t t' v' w } ≡ brzozowski c room reverse (lent table rt rv rows)
     unfolding brzozowski all_zeros
     back_full e t t' v' w et et' ev' ew =
-        let o : reverse < length fs = rw (← back-states) (subst (λ (g : Grown). MadeAs (vector_plan Kind.Reverse s reverse) c c rt rt' rv rv' g) e m) in
+        let o : reverse < length fs = rw (← back_states) (subst (λ (g : Grown). MadeAs (vector_plan Kind.Reverse s reverse) c c rt rt' rv rv' g) e m) in
         simp (et, et', ev', ew, fits, ok, lt-ltb reverse (length fs) o)
 
     module _ (count : ℕ) (e : r ≡ Held count) where
@@ -77,41 +77,41 @@ module _ (c : List ℕ) (s : Shape) (fits : chart_fits c ≡ true) (h : Shaped c
       d = subst (λ (g : Grown). MadeAs (vector_plan Kind.Reverse s reverse) c c rt rt' rv rv' g) e m
 
       count_is : count ≡ length fs
-      count_is = d.count_is ∙ ap length back-states
+      count_is = d.count_is ∙ ap length back_states
 
       few : length fs ≤ reverse
       few = rw (← count_is) d.roomy
 
-      back-table : rt' ≡ in_front (table_of (reverse_by c) (letters c) fs) rt
-      back-table = d.table_is ∙ rw (back-states, h.letters_is)
+      back_table : rt' ≡ in_front (table_of (reverse_by c) (letters c) fs) rt
+      back_table = d.table_is ∙ rw (back_states, h.letters_is)
 
-      back-vectors : rv' ≡ placed (n_of c) (suc reverse) fs rv
-      back-vectors = d.vectors_is ∙ rw (back-states, h.n_is)
+      back_vectors : rv' ≡ placed (n_of c) (suc reverse) fs rv
+      back_vectors = d.vectors_is ∙ rw (back_states, h.n_is)
 
       front : rt' ≡ table_of (reverse_by c) (letters c) fs ++ drop (length (table_of (reverse_by c) (letters c) fs)) rt
-      front = back-table ∙ in_front_lem (table_of (reverse_by c) (letters c) fs) rt
+      front = back_table ∙ in_front_lem (table_of (reverse_by c) (letters c) fs) rt
 
       small : length fs ≤ 4096
-      small = omega (arith, few, back-rooms.high)
+      small = omega (arith, few, back_rooms.high)
 
       -- its bytes, read back
-      grade-is : (i : ℕ) → i < length fs → grade_at rt' (letters c) i ≡ start_grade c (get_or fs i [])
-      grade-is = grade-back (reverse_by c) (letters c) fs rt' _ front
+      grade_is : (i : ℕ) → i < length fs → grade_at rt' (letters c) i ≡ start_grade c (get_or fs i [])
+      grade_is = grade_back (reverse_by c) (letters c) fs rt' _ front
 
       next_is : (i x : ℕ) → i < length fs → x < letters c → next_at rt' (letters c) i x ≡ place itself fs (times_col c x (get_or fs i []))
-      next_is = next-back (reverse_by c) (letters c) fs rt' _ front small
+      next_is = next_back (reverse_by c) (letters c) fs rt' _ front small
 
       graded : (i : ℕ) → i < length fs → Grades c (get_or fs i [])
       unfolding reverse_states states_of
-      graded = states-each itself (times_col c) (letters c) reverse (end_vec c) (Grades c) (end-grades c (sound c fits)) (λ x l w g. col-grades c (sound c fits) x w l g)
+      graded = states_each itself (times_col c) (letters c) reverse (end_vec c) (Grades c) (end_grades c (sound c fits)) (λ x l w g. col_grades c (sound c fits) x w l g)
 
       closed : (i : ℕ) → i < length fs → (x : ℕ) → x < letters c → place itself fs (times_col c x (get_or fs i [])) < length fs
       unfolding reverse_states states_of
-      closed = states-closed itself (times_col c) (letters c) reverse (end_vec c) (λ v w x q l. ap (times_col c x) q) few
+      closed = states_closed itself (times_col c) (letters c) reverse (end_vec c) (λ v w x q l. ap (times_col c x) q) few
 
       some : 0 < length fs
       unfolding reverse_states states_of
-      some = states-some itself (times_col c) (letters c) reverse (end_vec c)
+      some = states_some itself (times_col c) (letters c) reverse (end_vec c)
 
       reverses : length rt' ≡ length rt → Reverses rt' (letters c) (k_of c) (length fs)
       unfolding start_grade
@@ -119,13 +119,13 @@ module _ (c : List ℕ) (s : Shape) (fits : chart_fits c ≡ true) (h : Shaped c
           record {
             long =
                 let n : length fs * row_size (letters c) ≤ reverse * row_size (letters c) = mul-le-mul_right (row_size (letters c)) few in
-                rw l (omega (arith, rw h.letters_is at back-rooms.rows));
-            grades = λ i b. rw (grade-is i b) (combine-low c (sound c fits) _ _ (start-grades c (sound c fits)) (graded i b));
+                rw l (omega (arith, rw h.letters_is at back_rooms.rows));
+            grades = λ i b. rw (grade_is i b) (combine_low c (sound c fits) _ _ (start_grades c (sound c fits)) (graded i b));
             nexts = λ i x b g. rw (next_is i x b g) (closed i b x g);
           }
 
-      pub rows-asks : length rt' ≡ length rt → GrowAsks (rows_plan s count reverse room) c rt' table rows
-      rows-asks l =
+      pub rows_asks : length rt' ≡ length rt → GrowAsks (rows_plan s count reverse room) c rt' table rows
+      rows_asks l =
           record {
             ready =
                 record {
@@ -135,7 +135,7 @@ module _ (c : List ℕ) (s : Shape) (fits : chart_fits c ≡ true) (h : Shaped c
                         shaped = h;
                         width = omega (arith, some, count_is);
                         inside = d.roomy;
-                        stride_high = back-rooms.high;
+                        stride_high = back_rooms.high;
                         room_low = rooms.low;
                         room_high = rooms.high;
                       };
@@ -146,39 +146,39 @@ module _ (c : List ℕ) (s : Shape) (fits : chart_fits c ≡ true) (h : Shaped c
           }
 
       -- the rows made from the bytes are those made from the reverse vectors
-      first-same : grades_in rt' (letters c) (length fs) ≡ first_row c fs
+      first_same : grades_in rt' (letters c) (length fs) ≡ first_row c fs
       unfolding grades_in first_row first_row_at
-      first-same = tabulate-cong (length fs) _ _ grade-is
+      first_same = tabulate_cong (length fs) _ _ grade_is
 
       step_same : (x : ℕ) → x < letters c → (row : List ℕ) → next_row rt' (letters c) (length fs) x row ≡ row_after c fs x row
       unfolding next_row next_row_at row_after row_after_at
-      step_same x l row = tabulate-cong (length fs) _ _ (λ i b. ap (λ j. get_or row j 0) (next_is i x b l))
+      step_same x l row = tabulate_cong (length fs) _ _ (λ i b. ap (λ j. get_or row j 0) (next_is i x b l))
 
-      rows-states : states_by (rows_plan s count reverse room) c rt' ≡ row_states c fs room
+      rows_states : states_by (rows_plan s count reverse room) c rt' ≡ row_states c fs room
       unfolding row_states
-      rows-states = rw (h.letters_is, count_is) (states-same itself _ _ (letters c) step_same room row_grade first-same)
+      rows_states = rw (h.letters_is, count_is) (states_same itself _ _ (letters c) step_same room row_grade first_same)
 
-      rows-table : (vs : List (List ℕ)) → table_of (made (rows_plan s count reverse room) c rt') s.letters vs ≡ table_of (rows_by c fs) (letters c) vs
-      rows-table vs = rw (h.letters_is, count_is) (table_same itself _ _ (letters c) step_same _ _ row_grade vs)
+      rows_table : (vs : List (List ℕ)) → table_of (made (rows_plan s count reverse room) c rt') s.letters vs ≡ table_of (rows_by c fs) (letters c) vs
+      rows_table vs = rw (h.letters_is, count_is) (table_same itself _ _ (letters c) step_same _ _ row_grade vs)
 
       module _ (table' rows' : List ℕ) (g : Grown) (n : MadeAs (rows_plan s count reverse room) c rt' table table' rows rows' g) where
-        pub rows-full : g ≡ Full → (t t' v' w : List ℕ) → t ≡ zeros table → t' ≡ zeros rt → v' ≡ zeros rv → w ≡ zeros rows →
+        pub rows_full : g ≡ Full → (t t' v' w : List ℕ) → t ≡ zeros table → t' ≡ zeros rt → v' ≡ zeros rv → w ≡ zeros rows →
             record { reply = (7, []); left = lent t t' v' w } ≡ brzozowski c room reverse (lent table rt rv rows)
         unfolding brzozowski backward_built all_zeros
-        rows-full q t t' v' w et et' ev' ew =
+        rows_full q t t' v' w et et' ev' ew =
             let o : room < length (row_states c fs room) =
-            rw (← rows-states) (subst (λ (k : Grown). MadeAs (rows_plan s count reverse room) c rt' table table' rows rows' k) q n) in
+            rw (← rows_states) (subst (λ (k : Grown). MadeAs (rows_plan s count reverse room) c rt' table table' rows rows' k) q n) in
             simp (et, et', ev', ew, fits, ok, le-ltb reverse (length fs) few, lt-ltb room (length (row_states c fs room)) o)
 
-        pub rows-done : (held : ℕ) → g ≡ Held held →
+        pub rows_done : (held : ℕ) → g ≡ Held held →
             record { reply = (0, held ∷ count ∷ []); left = lent table' rt' rv' rows' } ≡ brzozowski c room reverse (lent table rt rv rows)
         unfolding brzozowski backward_built
-        rows-done held q =
+        rows_done held q =
             let k : Made (rows_plan s count reverse room) c rt' table table' rows rows' held =
             subst (λ (k : Grown). MadeAs (rows_plan s count reverse room) c rt' table table' rows rows' k) q n in
-            let hl : held ≡ length (row_states c fs room) = k.count_is ∙ ap length rows-states in
+            let hl : held ≡ length (row_states c fs room) = k.count_is ∙ ap length rows_states in
             let l : length (row_states c fs room) ≤ room = rw (← hl) k.roomy in
             let et : table' ≡ in_front (table_of (rows_by c fs) (letters c) (row_states c fs room)) table =
-            k.table_is ∙ ap (λ (y : List ℕ). in_front y table) (rows-table _ ∙ ap (table_of (rows_by c fs) (letters c)) rows-states) in
-            let ew : rows' ≡ placed reverse (suc room) (row_states c fs room) rows = k.vectors_is ∙ ap (λ (vs : List (List ℕ)). placed reverse (suc room) vs rows) rows-states in
-            simp (et, ew, back-table, back-vectors, hl, count_is, fits, ok, le-ltb reverse (length fs) few, le-ltb room (length (row_states c fs room)) l)
+            k.table_is ∙ ap (λ (y : List ℕ). in_front y table) (rows_table _ ∙ ap (table_of (rows_by c fs) (letters c)) rows_states) in
+            let ew : rows' ≡ placed reverse (suc room) (row_states c fs room) rows = k.vectors_is ∙ ap (λ (vs : List (List ℕ)). placed reverse (suc room) vs rows) rows_states in
+            simp (et, ew, back_table, back_vectors, hl, count_is, fits, ok, le-ltb reverse (length fs) few, le-ltb room (length (row_states c fs room)) l)

@@ -1,4 +1,6 @@
 // The reverse table of a checked chart, then the rows over it.
+#![tactic(auto)]
+
 ghost use Rattle.std.specs.Prelude.{◌≡◌, true};
 ghost use Rattle.replies.specs.Replies.{both_said};
 ghost use Rattle.paper.specs.Builders.{brzozowski, backward_room};

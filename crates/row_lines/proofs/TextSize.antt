@@ -10,8 +10,8 @@ use Rattle.pages.specs.Texts.{table_text_size}
 
 module _ (count m room : ℕ) where
   -- no room for the first and the last line
-  pub size-ends : room < 22 → false ≡ leb (table_text_size count m) room
-  size-ends h = sym (lt-leb (table_text_size count m) room (omega arith))
+  pub size_ends : room < 22 → false ≡ leb (table_text_size count m) room
+  size_ends h = sym (lt-leb (table_text_size count m) room (omega arith))
 
   module _ (ends : 22 ≤ room) where
     -- no other lines
@@ -20,16 +20,16 @@ module _ (count m room : ℕ) where
 
     -- some, each of which may have `line` bytes
     module _ (some : 0 < count) where
-      pub size-short : (room - 22) / count < 9 → false ≡ leb (table_text_size count m) room
-      size-short h =
+      pub size_short : (room - 22) / count < 9 → false ≡ leb (table_text_size count m) room
+      size_short h =
           let nine-each : count * 9 ≤ count * (9 + 4 * m) = mul-le-mul_left count (omega arith) in
           sym
           (lt-leb (table_text_size count m) room
           (omega (arith, (div-lt_iff_lt-mul {k = count} {x = room - 22} {y = 9} some).0 h, mul_comm 9 count, nine-each)))
 
       module _ (nine : 9 ≤ (room - 22) / count) where
-        pub size-by-line : leb m (((room - 22) / count - 9) / 4) ≡ leb (table_text_size count m) room
-        size-by-line = go (leb m (((room - 22) / count - 9) / 4)) refl
+        pub size_by_line : leb m (((room - 22) / count - 9) / 4) ≡ leb (table_text_size count m) room
+        size_by_line = go (leb m (((room - 22) / count - 9) / 4)) refl
           where
             go : (b : Bool) → leb m (((room - 22) / count - 9) / 4) ≡ b → b ≡ leb (table_text_size count m) room
             go true q =

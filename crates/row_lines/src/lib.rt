@@ -1,4 +1,6 @@
 // The lines of a table's rows, and whether a table's text fits.
+#![tactic(auto)]
+
 ghost use Rattle.std.specs.Prelude.{◌≡◌, leb};
 ghost use Rattle.paper.specs.Lists.{joined, in_front};
 ghost use Rattle.pages.specs.Texts.{row_line, table_text_size};

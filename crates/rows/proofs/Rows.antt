@@ -12,28 +12,28 @@ use Rattle.paper.specs.Lists.{both, all_below}
 use Rattle.paper.specs.Tables.{grade_at, next_at, row_size, next_fits, size_fits, row_fits, step_reply, grade_reply}
 use Rattle.rows.specs.RowIn.{RowIn}
 use Rattle.lists.proofs.Bound.{row_end}
-use Rattle.lists.proofs.Tests.{both_left, both_right, both_false, all-at, all-fails, all_more}
+use Rattle.lists.proofs.Tests.{both_left, both_right, both_false, all_at, all_fails, all_more}
 
 module _ (rows : List ℕ) (count m top s : ℕ) where
   -- the grade is too high
-  pub bad-grade : top ≤ grade_at rows m s → false ≡ row_fits rows count m top s
+  pub bad_grade : top ≤ grade_at rows m s → false ≡ row_fits rows count m top s
   unfolding row_fits both
-  bad-grade h = simp (le-ltb (grade_at rows m s) top h)
+  bad_grade h = simp (le-ltb (grade_at rows m s) top h)
 
   -- a next state is too high
-  pub bad-next : (x : ℕ) → x < m → count ≤ next_at rows m s x → false ≡ row_fits rows count m top s
+  pub bad_next : (x : ℕ) → x < m → count ≤ next_at rows m s x → false ≡ row_fits rows count m top s
   unfolding row_fits next_fits
-  bad-next x l h = simp (all-fails (next_fits rows count m s) m x l (le-ltb (next_at rows m s x) count h), both_false)
+  bad_next x l h = simp (all_fails (next_fits rows count m s) m x l (le-ltb (next_at rows m s x) count h), both_false)
 
   -- one more next state is not
-  pub more-next : (x : ℕ) → all_below x (next_fits rows count m s) ≡ true → next_at rows m s x < count → all_below (x + 1) (next_fits rows count m s) ≡ true
+  pub more_next : (x : ℕ) → all_below x (next_fits rows count m s) ≡ true → next_at rows m s x < count → all_below (x + 1) (next_fits rows count m s) ≡ true
   unfolding next_fits
-  more-next x e h = all_more (next_fits rows count m s) x e (lt-ltb (next_at rows m s x) count h)
+  more_next x e h = all_more (next_fits rows count m s) x e (lt-ltb (next_at rows m s x) count h)
 
   -- nothing in the row is
-  pub good-row : (x : ℕ) → x ≡ m → all_below x (next_fits rows count m s) ≡ true → grade_at rows m s < top → true ≡ row_fits rows count m top s
+  pub good_row : (x : ℕ) → x ≡ m → all_below x (next_fits rows count m s) ≡ true → grade_at rows m s < top → true ≡ row_fits rows count m top s
   unfolding row_fits both
-  good-row x q e h = simp (lt-ltb (grade_at rows m s) top h, rw q at e)
+  good_row x q e h = simp (lt-ltb (grade_at rows m s) top h, rw q at e)
 
 -- the size, part by part
 pub size_parts : (rows : List ℕ) (count m : ℕ) → size_fits rows count m ≡ true → (1 ≤ count) × (count ≤ 4096) × (1 ≤ m) × (m ≤ 16) × (count * row_size m ≤ length rows)
@@ -60,14 +60,14 @@ row_in rows count m s e h =
 
 -- what a step answers, case by case
 module _ (rows : List ℕ) (count m s x : ℕ) where
-  pub step-size : size_fits rows count m ≡ false → ◌≡◌ {A = Reply} (9, []) (step_reply rows count m s x)
+  pub step_size : size_fits rows count m ≡ false → ◌≡◌ {A = Reply} (9, []) (step_reply rows count m s x)
   unfolding step_reply
-  step-size e = simp (step_reply, e)
+  step_size e = simp (step_reply, e)
 
   module _ (e : size_fits rows count m ≡ true) where
-    pub step-state : count ≤ s → ◌≡◌ {A = Reply} (9, []) (step_reply rows count m s x)
+    pub step_state : count ≤ s → ◌≡◌ {A = Reply} (9, []) (step_reply rows count m s x)
     unfolding step_reply
-    step-state h = simp (step_reply, e, le-ltb s count h)
+    step_state h = simp (step_reply, e, le-ltb s count h)
 
     module _ (l : s < count) where
       pub step_letter : m ≤ x → ◌≡◌ {A = Reply} (8, 0 ∷ []) (step_reply rows count m s x)
@@ -78,35 +78,35 @@ module _ (rows : List ℕ) (count m s x : ℕ) where
       unfolding step_reply
       step_row h f = simp (step_reply, e, lt-ltb s count l, lt-ltb x m h, f)
 
-      pub step-next : x < m → row_fits rows count m 16 s ≡ true → (r : ℕ) → r ≡ next_at rows m s x → ◌≡◌ {A = Reply} (0, r ∷ []) (step_reply rows count m s x)
+      pub step_next : x < m → row_fits rows count m 16 s ≡ true → (r : ℕ) → r ≡ next_at rows m s x → ◌≡◌ {A = Reply} (0, r ∷ []) (step_reply rows count m s x)
       unfolding step_reply
-      step-next h f r q = simp (step_reply, e, lt-ltb s count l, lt-ltb x m h, f, q)
+      step_next h f r q = simp (step_reply, e, lt-ltb s count l, lt-ltb x m h, f, q)
 
 -- what asking for a grade answers, case by case
 module _ (rows : List ℕ) (count m s : ℕ) where
-  pub grade-size : size_fits rows count m ≡ false → ◌≡◌ {A = Reply} (9, []) (grade_reply rows count m s)
+  pub grade_size : size_fits rows count m ≡ false → ◌≡◌ {A = Reply} (9, []) (grade_reply rows count m s)
   unfolding grade_reply
-  grade-size e = simp (grade_reply, e)
+  grade_size e = simp (grade_reply, e)
 
   module _ (e : size_fits rows count m ≡ true) where
-    pub grade-state : count ≤ s → ◌≡◌ {A = Reply} (9, []) (grade_reply rows count m s)
+    pub grade_state : count ≤ s → ◌≡◌ {A = Reply} (9, []) (grade_reply rows count m s)
     unfolding grade_reply
-    grade-state h = simp (grade_reply, e, le-ltb s count h)
+    grade_state h = simp (grade_reply, e, le-ltb s count h)
 
-    pub grade-row : s < count → row_fits rows count m 16 s ≡ false → ◌≡◌ {A = Reply} (9, []) (grade_reply rows count m s)
+    pub grade_row : s < count → row_fits rows count m 16 s ≡ false → ◌≡◌ {A = Reply} (9, []) (grade_reply rows count m s)
     unfolding grade_reply
-    grade-row l f = simp (grade_reply, e, lt-ltb s count l, f)
+    grade_row l f = simp (grade_reply, e, lt-ltb s count l, f)
 
-    pub grade-is : s < count → row_fits rows count m 16 s ≡ true → (r : ℕ) → r ≡ grade_at rows m s → ◌≡◌ {A = Reply} (0, r ∷ []) (grade_reply rows count m s)
+    pub grade_is : s < count → row_fits rows count m 16 s ≡ true → (r : ℕ) → r ≡ grade_at rows m s → ◌≡◌ {A = Reply} (0, r ∷ []) (grade_reply rows count m s)
     unfolding grade_reply
-    grade-is l f r q = simp (grade_reply, e, lt-ltb s count l, f, q)
+    grade_is l f r q = simp (grade_reply, e, lt-ltb s count l, f, q)
 
 -- what a row that fits says of its grade and its next states
 module _ (rows : List ℕ) (count m top s : ℕ) (fits : row_fits rows count m top s ≡ true) where
-  pub row-grade : grade_at rows m s < top
+  pub row_grade_lem : grade_at rows m s < top
   unfolding row_fits
-  row-grade = ltb-true _ _ (both_left _ (all_below m (next_fits rows count m s)) fits)
+  row_grade_lem = ltb-true _ _ (both_left _ (all_below m (next_fits rows count m s)) fits)
 
   pub row_next : (x : ℕ) → x < m → next_at rows m s x < count
   unfolding row_fits next_fits
-  row_next x h = ltb-true _ _ (all-at (next_fits rows count m s) m (both_right (ltb (grade_at rows m s) top) _ fits) x h)
+  row_next x h = ltb-true _ _ (all_at (next_fits rows count m s) m (both_right (ltb (grade_at rows m s) top) _ fits) x h)

@@ -1,4 +1,6 @@
 // Inner: reading a table's rows, and the tests that the calls are made of. Some have a `requires`, so only proved code may call them.
+#![tactic(auto)]
+
 ghost use Rattle.std.specs.Prelude.{◌≡◌, ◌+◌, ◌*◌, ◌<◌};
 ghost use Rattle.paper.specs.Tables.{grade_at, next_at, size_fits, row_fits, table_fits};
 ghost use Rattle.rows.specs.RowIn.{RowIn};

@@ -13,13 +13,13 @@ use Rattle.paper.specs.Lists.{same_list}
 use Rattle.paper.specs.Numbering.{place}
 use Rattle.lists.proofs.ByPlace.{same_true, same_false}
 use Rattle.lists.proofs.Tests.{below_suc}
-use Rattle.numbering.proofs.Place.{place_is, place-nowhere}
-use Rattle.places.specs.Search.{place_at, values}
+use Rattle.numbering.proofs.Place.{place_is, place_nowhere}
+use Rattle.places.specs.Search.{place_at}
 use Rattle.places.specs.declared.Place.{Place}
-use Rattle.places.proofs.Search.{length-values, values-at}
+use Rattle.places.proofs.Search.{length_values, values_at}
 use Rattle.marks.specs.Marks.{mark_of}
 use Rattle.marks.specs.Chains.{bucket_of, Chained}
-use Rattle.marks.proofs.ChainLaws.{OnChain, NoneFrom, start-on, next-on, next_low, none-start, none-next}
+use Rattle.marks.proofs.ChainLaws.{OnChain, NoneFrom, start_on, next_on, next_low, none_start, none_next}
 use Rattle.paper.specs.Constructions.{reduced_key}
 use Rattle.cells.specs.Shaped.{Shaped}
 use Rattle.kinds.specs.Kinds.{key_by, keyed, key_size}
@@ -66,18 +66,18 @@ module _ {c : List ℕ} {p : Plan} {vectors marks : List ℕ} {held : ℕ} (h : 
     found_at : s < held → key_by p.kind c (place_at p.stride p.width vectors s) ≡ key → FoundFor p c vectors held key (Place.At s)
     found_at l e v ev =
         let q : place (key_by p.kind c) (kept_in p held vectors) v ≡ s =
-        place_is (key_by p.kind c) (kept_in p held vectors) v s (rw length-values l) (rw (values-at p.stride p.width held vectors s l) (e ∙ ev))
-        (λ j b f. passed j b ((rw (values-at p.stride p.width held vectors j (omega arith)) at f) ∙ sym ev)) in
+        place_is (key_by p.kind c) (kept_in p held vectors) v s (rw length_values l) (rw (values_at p.stride p.width held vectors s l) (e ∙ ev))
+        (λ j b f. passed j b ((rw (values_at p.stride p.width held vectors j (omega arith)) at f) ∙ sym ev)) in
         simp (q, lt-ltb s held l)
 
     found_none : held ≤ s → FoundFor p c vectors held key Place.Nowhere
     found_none l v ev =
         let q : place (key_by p.kind c) (kept_in p held vectors) v ≡ held =
-        place-nowhere (key_by p.kind c) (kept_in p held vectors) v
+        place_nowhere (key_by p.kind c) (kept_in p held vectors) v
         (λ j b f.
-        let b' : j < held = rw length-values at b in
-        passed j (omega arith) ((rw (values-at p.stride p.width held vectors j b') at f) ∙ sym ev))
-        ∙ length-values p.stride p.width held vectors in
+        let b' : j < held = rw length_values at b in
+        passed j (omega arith) ((rw (values_at p.stride p.width held vectors j b') at f) ∙ sym ev))
+        ∙ length_values p.stride p.width held vectors in
         simp (q, le-ltb held held (omega arith))
 
 -- what holds of more places holds of fewer
@@ -98,45 +98,45 @@ module _ {c : List ℕ} {p : Plan} {vectors heads links marks : List ℕ} {held 
   numbered : (s : ℕ) → s < held → key_by p.kind c (place_at p.stride p.width vectors s) ≡ key → get_or marks s 0 ≡ number
   numbered s l e = h.valued.marked s l ∙ ap mark_of e ∙ sym n
 
-  pub down-start : {entry : ℕ} → entry ≡ get_or heads (bucket_of number) 0 → Down c p vectors marks held number key entry held
-  down-start e =
-      record { on = start-on h.chained number e; past = none-start h.chained number _ numbered e; top = le_refl held; own = λ l. absurd (omega arith) }
+  pub down_start : {entry : ℕ} → entry ≡ get_or heads (bucket_of number) 0 → Down c p vectors marks held number key entry held
+  down_start e =
+      record { on = start_on h.chained number e; past = none_start h.chained number _ numbered e; top = le_refl held; own = λ l. absurd (omega arith) }
 
   module _ {entry first s next : ℕ} (d : Down c p vectors marks held number key entry first) (f : suc s ≡ entry) (e : next ≡ get_or links s 0) where
     -- place s has the key
-    pub down-here : {first' : ℕ} {t : Bool} → first' ≡ s → t ≡ same_list (key_by p.kind c (place_at p.stride p.width vectors s)) key → t ≡ true →
+    pub down_here : {first' : ℕ} {t : Bool} → first' ≡ s → t ≡ same_list (key_by p.kind c (place_at p.stride p.width vectors s)) key → t ≡ true →
         Down c p vectors marks held number key next first'
-    down-here g q y =
+    down_here g q y =
         record {
-          on = next-on h.chained number d.on f e;
-          past = none-next h.chained number _ numbered d.on f e (λ t l b. absurd (omega arith)) (λ b. absurd (omega arith));
+          on = next_on h.chained number d.on f e;
+          past = none_next h.chained number _ numbered d.on f e (λ t l b. absurd (omega arith)) (λ b. absurd (omega arith));
           top = omega (arith, d.on.low);
           own = λ _. rw g (same_true _ key (sym q ∙ y));
         }
 
     -- or not
-    pub down-past : {first' : ℕ} {t : Bool} → first' ≡ first → t ≡ same_list (key_by p.kind c (place_at p.stride p.width vectors s)) key → t ≡ false →
+    pub down_past : {first' : ℕ} {t : Bool} → first' ≡ first → t ≡ same_list (key_by p.kind c (place_at p.stride p.width vectors s)) key → t ≡ false →
         Down c p vectors marks held number key next first'
-    down-past g q y =
+    down_past g q y =
         record {
-          on = next-on h.chained number d.on f e;
-          past = rw g (none-next h.chained number _ numbered d.on f e d.past (λ _. same_false _ key (sym q ∙ y)));
+          on = next_on h.chained number d.on f e;
+          past = rw g (none_next h.chained number _ numbered d.on f e d.past (λ _. same_false _ key (sym q ∙ y)));
           top = rw g d.top;
           own = rw g d.own;
         }
 
-    pub down-less : next < entry
-    down-less = omega (arith, next_low h.chained number d.on f e)
+    pub down_less : next < entry
+    down_less = omega (arith, next_low h.chained number d.on f e)
 
   module _ {entry first : ℕ} (d : Down c p vectors marks held number key entry first) (z : entry ≡ 0) where
     passed : (j : ℕ) → j < first → key_by p.kind c (place_at p.stride p.width vectors j) ≡ key → ⊥
     passed j b = d.past j (omega arith) b
 
-    pub down-none : first ≡ held → FoundFor p c vectors held key Place.Nowhere
-    down-none e = found_none h.valued key first passed (omega arith)
+    pub down_none : first ≡ held → FoundFor p c vectors held key Place.Nowhere
+    down_none e = found_none h.valued key first passed (omega arith)
 
-    pub down-found : (first ≡ held → ⊥) → FoundFor p c vectors held key (Place.At first)
-    down-found f =
+    pub down_found : (first ≡ held → ⊥) → FoundFor p c vectors held key (Place.At first)
+    down_found f =
         let l : first < held = omega (arith, d.top, f) in
         found_at h.valued key first passed l (d.own l)
 
@@ -145,14 +145,14 @@ module _ {c : List ℕ} {p : Plan} {vectors heads links marks : List ℕ} {held 
 module _ {c : List ℕ} {p : Plan} {vectors heads links marks : List ℕ} {held : ℕ} {key : List ℕ} {found : Place} (h : Holds c p vectors (heads, links, marks) held)
     (e : key ≡ key_by p.kind c (place_at p.stride p.width vectors held)) (f : FoundFor p c vectors held key found) where
   -- its key is there: nothing is kept
-  pub sought-old : {j : ℕ} → found ≡ Place.At j → Sought p c vectors (heads, links, marks) held (Place.At j)
-  sought-old g = record { answer = sym g ∙ f _ e; holds = h }
+  pub sought_old : {j : ℕ} → found ≡ Place.At j → Sought p c vectors (heads, links, marks) held (Place.At j)
+  sought_old g = record { answer = sym g ∙ f _ e; holds = h }
 
   -- its key is new: its number is kept, and indexed
   module _ {heads' links' marks' : List ℕ} {number : ℕ} (r : held ≤ p.room) (v : Value p.shape.k p.width (place_at p.stride p.width vectors held)) (n : number ≡ mark_of key)
       (l : length links' ≡ length links) (k : Chained heads' links' marks' (held + 1) × (marks' ≡ set marks held number)) where
-    valued-more : Valued c p vectors marks' (held + 1)
-    valued-more =
+    valued_more : Valued c p vectors marks' (held + 1)
+    valued_more =
         record {
           fits = h.valued.fits;
           roomy = rw (k.1, length-set) h.valued.roomy;
@@ -164,8 +164,8 @@ module _ {c : List ℕ} {p : Plan} {vectors heads links marks : List ℕ} {held 
               (rw k.1 (get_or-set_same marks held number 0 (omega (arith, h.valued.roomy)) ∙ n ∙ ap mark_of e)));
         }
 
-    pub sought-new : found ≡ Place.Nowhere → Sought p c vectors (heads', links', marks') held Place.Nowhere
-    sought-new g = record { answer = sym g ∙ f _ e; holds = record { valued = valued-more; linked = rw l h.linked; chained = k.0 } }
+    pub sought_new : found ≡ Place.Nowhere → Sought p c vectors (heads', links', marks') held Place.Nowhere
+    sought_new g = record { answer = sym g ∙ f _ e; holds = record { valued = valued_more; linked = rw l h.linked; chained = k.0 } }
 
 -- ---- the candidate's key
 
@@ -177,17 +177,17 @@ module _ (p : Plan) (vectors : List ℕ) (held : ℕ) where
 
   -- its key in the reduced table
   module _ (c : List ℕ) (e : p.kind ≡ Kind.Reduced) {key : List ℕ} (h : key ≡ reduced_key c (take (held * p.stride + p.width - held * p.stride) (drop (held * p.stride) vectors))) where
-    pub key-reduced : key ≡ key_by p.kind c (place_at p.stride p.width vectors held)
-    key-reduced = h ∙ rw (taken p.stride p.width vectors held (held * p.stride) refl, e)
+    pub key_reduced : key ≡ key_by p.kind c (place_at p.stride p.width vectors held)
+    key_reduced = h ∙ rw (taken p.stride p.width vectors held (held * p.stride) refl, e)
 
-    pub size-reduced : Shaped c p.shape → length key ≡ key_size p.kind p.shape p.width
-    size-reduced z = rw e (ap length h ∙ length_key _ z)
+    pub size_reduced : Shaped c p.shape → length key ≡ key_size p.kind p.shape p.width
+    size_reduced z = rw e (ap length h ∙ length_key _ z)
 
   -- and elsewhere
   module _ (c : List ℕ) (e : keyed p.kind ≡ false) where
-    pub key-itself : take (held * p.stride + p.width - held * p.stride) (drop (held * p.stride) vectors) ≡ key_by p.kind c (place_at p.stride p.width vectors held)
-    key-itself = taken p.stride p.width vectors held (held * p.stride) refl ∙ sym (own_key p.kind c _ e)
+    pub key_itself : take (held * p.stride + p.width - held * p.stride) (drop (held * p.stride) vectors) ≡ key_by p.kind c (place_at p.stride p.width vectors held)
+    key_itself = taken p.stride p.width vectors held (held * p.stride) refl ∙ sym (own_key p.kind c _ e)
 
-    pub size-itself : Value p.shape.k p.width (place_at p.stride p.width vectors held) →
+    pub size_itself : Value p.shape.k p.width (place_at p.stride p.width vectors held) →
         length (take (held * p.stride + p.width - held * p.stride) (drop (held * p.stride) vectors)) ≡ key_size p.kind p.shape p.width
-    size-itself h = (candidate h).long ∙ sym (own_size p.kind p.shape p.width e)
+    size_itself h = (candidate h).long ∙ sym (own_size p.kind p.shape p.width e)

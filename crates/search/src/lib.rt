@@ -1,4 +1,6 @@
 // Where a candidate's key stands among the kept ones.
+#![tactic(auto)]
+
 ghost use Rattle.std.specs.Prelude.{◌≡◌, suc, ◌*◌, ◌≤◌, length};
 ghost use Rattle.paper.specs.Lists.{same_list};
 ghost use Rattle.places.specs.Search.{place_at};

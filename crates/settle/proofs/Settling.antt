@@ -7,18 +7,18 @@ use lib.ListN.{length, take, drop}
 use borrow.Rule.Slice.PartMut.{put_mid}
 use Rattle.paper.specs.Lists.{in_front}
 use Rattle.paper.specs.Numbering.{place}
-use Rattle.numbering.proofs.Place.{place-le}
-use Rattle.numbering.proofs.Kept.{kept_new, kept-old}
+use Rattle.numbering.proofs.Place.{place_le}
+use Rattle.numbering.proofs.Kept.{kept_new, kept_old}
 use Rattle.places.specs.Search.{place_at, place_for}
 use Rattle.places.specs.declared.Place.{Place}
-use Rattle.places.proofs.Search.{length-values, answer-none, answer_at}
+use Rattle.places.proofs.Search.{length_values, answer_none, answer_at}
 use Rattle.kinds.specs.Kinds.{made}
 use Rattle.kinds.specs.Ready.{Value}
 use Rattle.places.specs.Memory.{spliced, Apart}
 use Rattle.search.specs.Kept.{kept_in, Index, Holds, held_with, Sought}
 use Rattle.settle.specs.Settles.{Settles, Asks}
 use Rattle.kinds.specs.declared.Plan.{Plan}
-use Rattle.places.proofs.Memory.{lent_from, values-more, place_here, place-before, values-before, apart-spliced}
+use Rattle.places.proofs.Memory.{lent_from, values_more, place_here, place_before, values_before, apart_spliced}
 use Rattle.kinds.proofs.KindLaws.{made_step}
 use Rattle.search.proofs.Found.{place_inside}
 
@@ -44,17 +44,17 @@ module _ (p : Plan) (c t : List ℕ) (x : ℕ) (v old : List ℕ) (index : Index
   here = rw whole (place_here p.stride p.width held ((made p c t).step x v) old value.long inside (omega (arith, within)))
 
   before : (s : ℕ) → s < held → place_at p.stride p.width new s ≡ place_at p.stride p.width old s
-  before s l = rw whole (place-before p.stride p.width held ((made p c t).step x v) old value.long inside within s l)
+  before s l = rw whole (place_before p.stride p.width held ((made p c t).step x v) old value.long inside within s l)
 
   listed : kept_in p held new ≡ kept_in p held old
-  listed = rw whole (values-before p.stride p.width held ((made p c t).step x v) old value.long inside within)
+  listed = rw whole (values_before p.stride p.width held ((made p c t).step x v) old value.long inside within)
 
   apart : Apart p.stride p.width (suc p.room) old new
-  apart = rw whole (apart-spliced p.stride p.width held ((made p c t).step x v) old value.long inside within (suc p.room) (omega (arith, a.roomy)))
+  apart = rw whole (apart_spliced p.stride p.width held ((made p c t).step x v) old value.long inside within (suc p.room) (omega (arith, a.roomy)))
 
   -- the kept places still hold what they held
-  pub still-holds : Holds c p new index held
-  still-holds =
+  pub still_holds : Holds c p new index held
+  still_holds =
       record {
         valued =
             record {
@@ -68,38 +68,38 @@ module _ (p : Plan) (c t : List ℕ) (x : ℕ) (v old : List ℕ) (index : Index
       }
 
   -- and the candidate is a value
-  pub new-value : Value p.shape.k p.width (place_at p.stride p.width new held)
-  new-value = rw here value
+  pub new_value : Value p.shape.k p.width (place_at p.stride p.width new held)
+  new_value = rw here value
 
   module _ (index' : Index) (found : Place) (s : Sought p c new index' held found) where
     seen : found ≡ place_for held (place (made p c t).key (kept_in p held old) ((made p c t).step x v))
     seen = s.answer ∙ rw (here, listed)
 
-    none-past : place (made p c t).key (kept_in p held old) ((made p c t).step x v) ≤ held
-    none-past = rw (length-values p.stride p.width held old) at (place-le (made p c t).key (kept_in p held old) ((made p c t).step x v))
+    none_past : place (made p c t).key (kept_in p held old) ((made p c t).step x v) ≤ held
+    none_past = rw (length_values p.stride p.width held old) at (place_le (made p c t).key (kept_in p held old) ((made p c t).step x v))
 
-    holds-with : (f : Place) → found ≡ f → Holds c p new index' (held_with held f)
-    holds-with f e = subst (λ (g : Place). Holds c p new index' (held_with held g)) e s.holds
+    holds_with : (f : Place) → found ≡ f → Holds c p new index' (held_with held f)
+    holds_with f e = subst (λ (g : Place). Holds c p new index' (held_with held g)) e s.holds
 
-    pub settled-new : found ≡ Place.Nowhere → Settles p c t x v old new index' held held (held + 1)
-    settled-new e =
-        let n : place (made p c t).key (kept_in p held old) ((made p c t).step x v) ≡ held = omega (arith, answer-none held _ (sym seen ∙ e), none-past) in
+    pub settled_new : found ≡ Place.Nowhere → Settles p c t x v old new index' held held (held + 1)
+    settled_new e =
+        let n : place (made p c t).key (kept_in p held old) ((made p c t).step x v) ≡ held = omega (arith, answer_none held _ (sym seen ∙ e), none_past) in
         record {
           place_is = sym n;
           kept_is =
-              values-more p.stride p.width held new
+              values_more p.stride p.width held new
               ∙ ap₂ (λ (vs : List (List ℕ)) (u : List ℕ). vs ++ (u ∷ [])) listed here
-              ∙ sym (kept_new (made p c t).key (kept_in p held old) ((made p c t).step x v) (n ∙ sym (length-values p.stride p.width held old)));
-          holds = holds-with Place.Nowhere e;
+              ∙ sym (kept_new (made p c t).key (kept_in p held old) ((made p c t).step x v) (n ∙ sym (length_values p.stride p.width held old)));
+          holds = holds_with Place.Nowhere e;
           apart = apart;
         }
 
-    pub settled-old : (j : ℕ) → found ≡ Place.At j → Settles p c t x v old new index' held j held
-    settled-old j e =
+    pub settled_old : (j : ℕ) → found ≡ Place.At j → Settles p c t x v old new index' held j held
+    settled_old j e =
         let n = answer_at held _ j (sym seen ∙ e) in
         record {
           place_is = sym n.1;
-          kept_is = listed ∙ sym (kept-old (made p c t).key (kept_in p held old) ((made p c t).step x v) (rw (length-values p.stride p.width held old) n.0));
-          holds = holds-with (Place.At j) e;
+          kept_is = listed ∙ sym (kept_old (made p c t).key (kept_in p held old) ((made p c t).step x v) (rw (length_values p.stride p.width held old) n.0));
+          holds = holds_with (Place.At j) e;
           apart = apart;
         }

@@ -1,4 +1,6 @@
 // What a letter leads to, worked out in the first free place, and kept there if it is new.
+#![tactic(auto)]
+
 ghost use Rattle.std.specs.Prelude.{◌≡◌, ◌+◌, ◌*◌, ◌≤◌, ◌<◌, length, take, drop};
 ghost use Rattle.paper.specs.Tables.{two_bytes};
 ghost use Rattle.places.specs.Memory.{spliced};
@@ -10,7 +12,7 @@ use places::Place;
 use search::seek;
 
 // The place of a candidate, and how many states are kept with it.
-#[derive(Drop)]
+#[derive(Clone, Copy)]
 pub struct Settled {
     pub at: usize,
     pub held: usize,

@@ -18,12 +18,12 @@ module _ (c rows sheet : List ℕ) (lines : ℕ) {i : ℕ} (e : i ≡ bad_line c
   all_hold l = rw (le-leb lines (bad_line c rows sheet lines) (rw e at l))
 
   module _ (l : i < lines) where
-    pub grade-wrong : grade_holds c rows sheet i ≡ false → ◌≡◌ {A = Reply} (12, i ∷ []) (lines_reply c rows sheet lines)
+    pub grade_wrong : grade_holds c rows sheet i ≡ false → ◌≡◌ {A = Reply} (12, i ∷ []) (lines_reply c rows sheet lines)
     unfolding lines_reply line_reply
-    grade-wrong f = rw (← e, lt-leb lines i l, f)
+    grade_wrong f = rw (← e, lt-leb lines i l, f)
 
-    pub next-wrong : grade_holds c rows sheet i ≡ true → (x : ℕ) → x ≡ least_fail (letters c) (next_holds c rows sheet lines i) → ◌≡◌ {A = Reply} (13, i ∷ x ∷ []) (lines_reply c rows sheet lines)
+    pub next_wrong : grade_holds c rows sheet i ≡ true → (x : ℕ) → x ≡ least_fail (letters c) (next_holds c rows sheet lines i) → ◌≡◌ {A = Reply} (13, i ∷ x ∷ []) (lines_reply c rows sheet lines)
     unfolding lines_reply line_reply
-    next-wrong f x q = rw (← e, lt-leb lines i l, f, q)
+    next_wrong f x q = rw (← e, lt-leb lines i l, f, q)
 
 -- ---- the start pair

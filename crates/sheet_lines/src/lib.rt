@@ -1,4 +1,6 @@
 // Inner: the lines of a sheet that fits and has an index. It has a `requires`, so only proved code may call it.
+#![tactic(auto)]
+
 ghost use Rattle.std.specs.Prelude.{◌≡◌};
 ghost use Rattle.replies.specs.Replies.{verdict_said};
 ghost use Rattle.lines.specs.Readable.{Readable, Indexed, lines_reply};

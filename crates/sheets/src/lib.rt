@@ -1,4 +1,6 @@
 // The sheet check: whether a table grades as its chart does, by a sheet of pairs of a state and a vector.
+#![tactic(auto)]
+
 ghost use Rattle.std.specs.Prelude.{◌≡◌};
 ghost use Rattle.replies.specs.Replies.{verdict_said};
 ghost use Rattle.paper.specs.Sheets.{sheet_reply};

@@ -22,10 +22,10 @@ use Rattle.pages.specs.Programs.{or_refusal, built_text}
 use Rattle.replies.proofs.Said.{said_refuses}
 use Rattle.lists.proofs.Bound.{product}
 use Rattle.lists.proofs.Tests.{not_both, both_left, both_right}
-use Rattle.frames.proofs.FrameWritten.{length-frame}
+use Rattle.frames.proofs.FrameWritten.{length_frame}
 use Rattle.rows.proofs.Rows.{size_parts}
 use Rattle.chart.proofs.Checked.{fits_refused}
-use Rattle.row_lines.proofs.RowLines.{length-rows}
+use Rattle.row_lines.proofs.RowLines.{length_rows}
 use Rattle.shown.specs.Answered.{Answered, SizeOf, answer_most}
 use Rattle.shown.specs.Shown.{Shown, Sound}
 
@@ -46,11 +46,11 @@ answered w e s h = record { room = h; size_is = s _ (ap (λ (f : Filled). f.repl
 -- ---- a refusal's line
 
 module _ (number : ℕ) (w : Written) {old new : List ℕ} {size : ℕ} (room : answer_most ≤ length old) where
-  pub refusal-answered : ◌≡◌ {A = Filled} (record { reply = written_said w; buffer = new }) (print_refusal number old) → SizeOf w size →
+  pub refusal_answered : ◌≡◌ {A = Filled} (record { reply = written_said w; buffer = new }) (print_refusal number old) → SizeOf w size →
       Answered (refusal_text number) old new size
   unfolding print_refusal refusal_text
-  refusal-answered e s =
-      answered w (rw (le-leb (line_length 1) (length old) (omega arith)) at e) s (rw length-frame (omega arith))
+  refusal_answered e s =
+      answered w (rw (le-leb (line_length 1) (length old) (omega arith)) at e) s (rw length_frame (omega arith))
 
 -- ---- a table's text
 
@@ -59,8 +59,8 @@ pub length_table : (c rows : List ℕ) (count m : ℕ) → count * row_size m �
 unfolding table_text two_bytes
 length_table c rows count m h =
     let line : line_length (row_size m) ≡ 9 + 4 * m = omega arith in
-    simp (length-append, length-frame)
-    (omega (arith, length-rows rows count m h count (le_refl count), ap (λ (l : ℕ). count * l) line))
+    simp (length-append, length_frame)
+    (omega (arith, length_rows rows count m h count (le_refl count), ap (λ (l : ℕ). count * l) line))
 
 module _ {c table : List ℕ} {count : ℕ} (t : Shown c table count) where
   parts : (1 ≤ count) × (count ≤ 4096) × (1 ≤ letters c) × (letters c ≤ 16) × (count * row_size (letters c) ≤ length table)
@@ -71,10 +71,10 @@ module _ {c table : List ℕ} {count : ℕ} (t : Shown c table count) where
   most = let lines = product {a = count} {b = 9 + 4 * letters c} {c = 128} {d = 73} t.few (omega (arith, parts.3)) in omega arith
 
   module _ (w : Written) {old new : List ℕ} {size : ℕ} (room : answer_most ≤ length old) where
-    pub table-answered : (m : ℕ) → m ≡ letters c → ◌≡◌ {A = Filled} (record { reply = written_said w; buffer = new }) (print_table c table count m old) →
+    pub table_answered : (m : ℕ) → m ≡ letters c → ◌≡◌ {A = Filled} (record { reply = written_said w; buffer = new }) (print_table c table count m old) →
         SizeOf w size → Answered (table_text c table count (letters c)) old new size
     unfolding print_table
-    table-answered m q e s =
+    table_answered m q e s =
         answered
         w
         (rw (q, t.chart, le-leb (table_text_size count (letters c)) (length old) (omega (arith, most)), t.fits) at e)
@@ -82,8 +82,8 @@ module _ {c table : List ℕ} {count : ℕ} (t : Shown c table count) where
         (rw (length_table c table count (letters c) parts.4) (omega (arith, most)))
 
   -- its chart is not refused
-  pub not-refused : {r : Checked} {why : Refusal} → checked_said r ≡ check_reply c → r ≡ Checked.Refused why → ⊥
-  not-refused reply e = not_both t.chart (fits_refused c reply e)
+  pub not_refused : {r : Checked} {why : Refusal} → checked_said r ≡ check_reply c → r ≡ Checked.Refused why → ⊥
+  not_refused reply e = not_both t.chart (fits_refused c reply e)
 
 -- ---- from what a builder answered
 

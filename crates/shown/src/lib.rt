@@ -1,4 +1,6 @@
 // A table's text or a refusal's line, into the buffer that a program writes out.
+#![tactic(auto)]
+
 ghost use Rattle.std.specs.Prelude.{◌≤◌, length};
 ghost use Rattle.replies.specs.Replies.{said, built_said};
 ghost use Rattle.paper.specs.Chart.{letters};

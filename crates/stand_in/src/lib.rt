@@ -1,4 +1,6 @@
 // The Nerode call once more, for bodies that stand in for it whole (must-fail/): two of the wrong builders that document 01 names.
+#![tactic(auto)]
+
 ghost use Rattle.std.specs.Prelude.{◌≡◌};
 ghost use Rattle.replies.specs.Replies.{built_said};
 ghost use Rattle.paper.specs.Builders.{nerode};

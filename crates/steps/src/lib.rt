@@ -1,4 +1,6 @@
 // One step of a table, and the grade of one state.
+#![tactic(auto)]
+
 ghost use Rattle.std.specs.Prelude.{◌≡◌};
 ghost use Rattle.paper.specs.Tables.{step_reply, grade_reply};
 ghost use Rattle.replies.specs.Replies.{stepped_said, graded_said};

@@ -16,20 +16,20 @@ use Rattle.rows.specs.RowIn.{RowIn}
 use Rattle.tables.specs.Walking.{Walkable}
 use Rattle.places.specs.Search.{place_for}
 use Rattle.places.specs.declared.Place.{Place}
-use Rattle.places.proofs.Search.{answer_at, answer-none}
-use Rattle.rows.proofs.TableTest.{table-parts}
-use Rattle.lists.proofs.Tests.{all-at, all-by, all_more, least-none, least-is, least-all}
+use Rattle.places.proofs.Search.{answer_at, answer_none}
+use Rattle.rows.proofs.TableTest.{table_parts}
+use Rattle.lists.proofs.Tests.{all_at, all_by, all_more, least_none, least_is, least_all}
 use Rattle.rows.proofs.Rows.{row_in, row_next, size_parts}
 
 -- what checking a table answers
 module _ (rows : List ℕ) (count m : ℕ) where
-  pub table-refused : table_fits rows count m grade_top ≡ false → ◌≡◌ {A = Reply} (9, []) (table_reply rows count m)
+  pub table_refused : table_fits rows count m grade_top ≡ false → ◌≡◌ {A = Reply} (9, []) (table_reply rows count m)
   unfolding table_reply
-  table-refused e = simp e
+  table_refused e = simp e
 
-  pub table-accepted : table_fits rows count m grade_top ≡ true → ◌≡◌ {A = Reply} (0, []) (table_reply rows count m)
+  pub table_accepted : table_fits rows count m grade_top ≡ true → ◌≡◌ {A = Reply} (0, []) (table_reply rows count m)
   unfolding table_reply
-  table-accepted e = simp e
+  table_accepted e = simp e
 
 -- one letter more of the walk
 pub walk_more : (rows : List ℕ) (m s : ℕ) (word : List ℕ) (i x s' t : ℕ) → i < length word → x ≡ get_or word i 0 → s' ≡ next_at rows m s x → after (next_by rows m) s (drop i word) ≡ t → after (next_by rows m) s' (drop (i + 1) word) ≡ t
@@ -43,52 +43,52 @@ walk_end rows m s word i q e = rw (← e, q, drop-length)
 
 -- what a walkable table and word give at a state and a place
 module _ (rows : List ℕ) (count m : ℕ) (word : List ℕ) (w : Walkable rows count m word) where
-  pub walk-row : (s : ℕ) → s < count → RowIn rows m s
-  walk-row s l = row_in rows count m s (table-parts rows count m 16 w.table).0 l
+  pub walk_row : (s : ℕ) → s < count → RowIn rows m s
+  walk_row s l = row_in rows count m s (table_parts rows count m 16 w.table).0 l
 
-  pub walk-letter : (i : ℕ) → i < length word → get_or word i 0 < m
+  pub walk_letter : (i : ℕ) → i < length word → get_or word i 0 < m
   unfolding letter_fits
-  walk-letter i l = ltb-true _ _ (all-at (letter_fits word m) (length word) w.letters i l)
+  walk_letter i l = ltb-true _ _ (all_at (letter_fits word m) (length word) w.letters i l)
 
-  pub walk-below : (s i x s' : ℕ) → s < count → i < length word → x ≡ get_or word i 0 → s' ≡ next_at rows m s x → s' < count
-  walk-below s i x s' l k q r =
+  pub walk_below : (s i x s' : ℕ) → s < count → i < length word → x ≡ get_or word i 0 → s' ≡ next_at rows m s x → s' < count
+  walk_below s i x s' l k q r =
       rw (r, q)
-      (row_next rows count m 16 s (all-at (row_fits rows count m 16) count (table-parts rows count m 16 w.table).1 s l) (get_or word i 0) (walk-letter i k))
+      (row_next rows count m 16 s (all_at (row_fits rows count m 16) count (table_parts rows count m 16 w.table).1 s l) (get_or word i 0) (walk_letter i k))
 
-  pub walk-some : 0 < count
-  walk-some = (size_parts rows count m (table-parts rows count m 16 w.table).0).0
+  pub walk_some : 0 < count
+  walk_some = (size_parts rows count m (table_parts rows count m 16 w.table).0).0
 
 -- the first letter that is not one of m, from the tests that the code makes
 module _ (word : List ℕ) (m : ℕ) where
-  pub bad-is : (i : ℕ) → i < length word → all_below i (letter_fits word m) ≡ true → m ≤ get_or word i 0 → bad_letter word m ≡ i
+  pub bad_is : (i : ℕ) → i < length word → all_below i (letter_fits word m) ≡ true → m ≤ get_or word i 0 → bad_letter word m ≡ i
   unfolding bad_letter letter_fits
-  bad-is i l e h = least-is (letter_fits word m) (length word) i l (all-at (letter_fits word m) i e) (le-ltb (get_or word i 0) m h)
+  bad_is i l e h = least_is (letter_fits word m) (length word) i l (all_at (letter_fits word m) i e) (le-ltb (get_or word i 0) m h)
 
-  pub bad-none : (i : ℕ) → i ≡ length word → all_below i (letter_fits word m) ≡ true → bad_letter word m ≡ length word
+  pub bad_none : (i : ℕ) → i ≡ length word → all_below i (letter_fits word m) ≡ true → bad_letter word m ≡ length word
   unfolding bad_letter
-  bad-none i q e = least-none (letter_fits word m) (length word) (all-at (letter_fits word m) (length word) (rw q at e))
+  bad_none i q e = least_none (letter_fits word m) (length word) (all_at (letter_fits word m) (length word) (rw q at e))
 
-  pub more-letter : (i : ℕ) → all_below i (letter_fits word m) ≡ true → get_or word i 0 < m → all_below (i + 1) (letter_fits word m) ≡ true
+  pub more_letter : (i : ℕ) → all_below i (letter_fits word m) ≡ true → get_or word i 0 < m → all_below (i + 1) (letter_fits word m) ≡ true
   unfolding letter_fits
-  more-letter i e h = all_more (letter_fits word m) i e (lt-ltb (get_or word i 0) m h)
+  more_letter i e h = all_more (letter_fits word m) i e (lt-ltb (get_or word i 0) m h)
 
 -- what grading a word answers, case by case
 module _ (rows : List ℕ) (count m : ℕ) (word : List ℕ) where
-  pub word-table : table_fits rows count m 16 ≡ false → ◌≡◌ {A = Reply} (9, []) (word_reply rows count m word)
+  pub word_table : table_fits rows count m 16 ≡ false → ◌≡◌ {A = Reply} (9, []) (word_reply rows count m word)
   unfolding word_reply
-  word-table e = simp (word_reply, e)
+  word_table e = simp (word_reply, e)
 
   module _ (f : Place) (e : table_fits rows count m 16 ≡ true) (q : f ≡ place_for (length word) (bad_letter word m)) where
-    pub word-letter : (i : ℕ) → f ≡ Place.At i → ◌≡◌ {A = Reply} (8, i ∷ []) (word_reply rows count m word)
+    pub word_letter : (i : ℕ) → f ≡ Place.At i → ◌≡◌ {A = Reply} (8, i ∷ []) (word_reply rows count m word)
     unfolding word_reply
-    word-letter i h =
+    word_letter i h =
         let p = answer_at (length word) (bad_letter word m) i (sym q ∙ h) in
         simp (word_reply, e, p.1, lt-leb (length word) i (omega arith))
 
-    pub word-walkable : f ≡ Place.Nowhere → Walkable rows count m word
+    pub word_walkable : f ≡ Place.Nowhere → Walkable rows count m word
     unfolding bad_letter
-    word-walkable h = record { table = e; letters = all-by (letter_fits word m) (length word) (least-all (letter_fits word m) (length word) (answer-none (length word) (bad_letter word m) (sym q ∙ h))) }
+    word_walkable h = record { table = e; letters = all_by (letter_fits word m) (length word) (least_all (letter_fits word m) (length word) (answer_none (length word) (bad_letter word m) (sym q ∙ h))) }
 
-    pub word-grade : f ≡ Place.Nowhere → (g : ℕ) → g ≡ table_grade rows m word → ◌≡◌ {A = Reply} (0, g ∷ []) (word_reply rows count m word)
+    pub word_grade : f ≡ Place.Nowhere → (g : ℕ) → g ≡ table_grade rows m word → ◌≡◌ {A = Reply} (0, g ∷ []) (word_reply rows count m word)
     unfolding word_reply
-    word-grade h g k = simp (word_reply, e, le-leb (length word) (bad_letter word m) (answer-none (length word) (bad_letter word m) (sym q ∙ h)), k)
+    word_grade h g k = simp (word_reply, e, le-leb (length word) (bad_letter word m) (answer_none (length word) (bad_letter word m) (sym q ∙ h)), k)

@@ -1,4 +1,6 @@
 // Checking a table, and the grade of a word by it.
+#![tactic(auto)]
+
 ghost use Rattle.std.specs.Prelude.{◌≡◌, length};
 ghost use Rattle.paper.specs.Tables.{bad_letter, table_grade, table_reply, word_reply};
 ghost use Rattle.replies.specs.Replies.{verdict_said, graded_said};

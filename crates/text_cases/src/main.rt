@@ -1,23 +1,26 @@
 // Prints what the three programs print for each text on standard input, stored as `cases` says.
+#![tactic(auto)]
+
 use answers::Program;
 use answers::print::write_answer;
+use std::io::{self, Read};
 
-fn print_all(text: &[u8]) {
-    write_answer(Program::Nerode, text);
-    write_answer(Program::Reduced, text);
-    write_answer(Program::Brz, text);
+fn print_all(rt: &impl Print, text: &[u8]) -> io::Result<()> {
+    write_answer(rt, Program::Nerode, text)?;
+    write_answer(rt, Program::Reduced, text)?;
+    write_answer(rt, Program::Brz, text)
 }
 
-fn answer_next() {
+fn answer_next<R: Read>(rt: &impl Print, input: &mut R) -> io::Result<()> {
     let mut text = cases::buffer();
-    let size = cases::part(&mut text);
-    print_all(&text[..size]);
+    let size = cases::part(input, &mut text)?;
+    print_all(rt, &text[..size])
 }
 
-fn main() {
-    let mut left = cases::number();
-    while 0 < left {
-        answer_next();
-        left -= 1;
+fn main(rt: HostRuntime) -> io::Result<()> {
+    let mut input = rt.stdin();
+    for _ in 0..cases::number(&mut input)? {
+        answer_next(&rt, &mut input)?;
     }
+    Ok(())
 }

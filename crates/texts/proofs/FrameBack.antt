@@ -12,13 +12,13 @@ use borrow.Author.Tests.{lt-ltb, le-ltb, ltb-true, ltb-false, leb-true, leb-fals
 use Rattle.paper.specs.Lists.{pick, tabulate}
 use Rattle.paper.specs.Tables.{two_bytes}
 use Rattle.pages.specs.Frames.{hex_of, digit_of, hexed, framed, frame, newline, digits_length, line_length, byte_at, digit_fits, payload_at, payload, frame_fits}
-use Rattle.lists.proofs.Tests.{all-by}
-use Rattle.lists.proofs.ByPlace.{tabulate-cong}
+use Rattle.lists.proofs.Tests.{all_by}
+use Rattle.lists.proofs.ByPlace.{tabulate_cong}
 use Rattle.lists.proofs.Bound.{le_or_lt}
-use Rattle.texts.proofs.ListLaws.{tabulate-cons, take_two}
+use Rattle.texts.proofs.ListLaws.{tabulate_cons, take_two}
 use Rattle.frames.proofs.Hex.{digit_low, digit_high, digit_below, digit_between, digit_above}
-use Rattle.frames.proofs.FrameRead.{digit_at, kind-is, count_is, newline-is, frame-digits, frame-inside, frame-rest, length_payload, get_or_payload}
-use Rattle.frames.proofs.FrameWritten.{byte-rest, frame_at, frame-newline}
+use Rattle.frames.proofs.FrameRead.{digit_at, kind_is, count_is, newline_is, frame_digits, frame_inside, frame_rest, length_payload, get_or_payload}
+use Rattle.frames.proofs.FrameWritten.{byte_rest, frame_at, frame_newline}
 
 -- ---- digits
 
@@ -79,7 +79,7 @@ digits_back text pos (suc b) h l =
 -- ---- a line that is read as a frame is that frame, as it is written
 module _ (kind w : ℕ) (text : List ℕ) (pos : ℕ) (e : frame_fits kind w text pos ≡ true) where
   digit : (i : ℕ) → i < digits_length w → digit_of (get_or text (pos + i) 0) < 16
-  digit i l = digit_at text pos (digits_length w) i (frame-digits kind w text pos e) l
+  digit i l = digit_at text pos (digits_length w) i (frame_digits kind w text pos e) l
 
   byte_small : (i : ℕ) → i + 1 < digits_length w → byte_at text (pos + i) < 256
   unfolding byte_at
@@ -96,17 +96,17 @@ module _ (kind w : ℕ) (text : List ℕ) (pos : ℕ) (e : frame_fits kind w tex
       let low : w % 256 ≡ byte_at text (pos + 4) = omega (arith, byte_small 4 (omega arith)) in
       let z : pos + 2 * 0 ≡ pos = omega arith in
       let n : 3 + w ≡ suc (suc (suc w)) = omega arith in
-      rw (length_payload w text pos, n, tabulate-cons, tabulate-cons, tabulate-cons, z, kind-is kind w text pos e, high, low)
+      rw (length_payload w text pos, n, tabulate_cons, tabulate_cons, tabulate_cons, z, kind_is kind w text pos e, high, low)
       (ap (λ (p : List ℕ). kind ∷ byte_at text (pos + 2) ∷ byte_at text (pos + 4) ∷ p)
-      (tabulate-cong w (payload_at text pos) (λ i. byte_at text (pos + 2 * suc (suc (suc i)))) (λ i l. ap (λ (j : ℕ). byte_at text (pos + j)) (omega arith))))
+      (tabulate_cong w (payload_at text pos) (λ i. byte_at text (pos + 2 * suc (suc (suc i)))) (λ i l. ap (λ (j : ℕ). byte_at text (pos + j)) (omega arith))))
 
   pub frame_back : take (line_length w) (drop pos text) ≡ frame kind (payload w text pos)
   unfolding frame
   frame_back =
       let q : line_length w ≡ suc (2 * (3 + w)) = omega arith in
       let z : pos + 2 * (3 + w) ≡ pos + digits_length w = omega arith in
-      let inside : pos + line_length w ≤ length text = frame-inside kind w text pos e in
-      rw (q, take-suc (drop pos text) (2 * (3 + w)) 0 (simp length-drop (omega arith)), get_or-drop pos text (2 * (3 + w)) 0, z, newline-is kind w text pos e, bytes_read)
+      let inside : pos + line_length w ≤ length text = frame_inside kind w text pos e in
+      rw (q, take-suc (drop pos text) (2 * (3 + w)) 0 (simp length-drop (omega arith)), get_or-drop pos text (2 * (3 + w)) 0, z, newline_is kind w text pos e, bytes_read)
       (ap (λ (l : List ℕ). l ++ (newline ∷ [])) (sym (digits_back text pos (3 + w) (λ i k. digit i (omega arith)) (omega arith))))
 
 -- ---- a frame that is written is read as that frame
@@ -116,51 +116,51 @@ unfoldable pub Bytes : List ℕ → Type 0
 Bytes l = (i : ℕ) → get_or l i 0 < 256
 
 module _ (kind : ℕ) (p text : List ℕ) (pos : ℕ) (small : kind < 256) (few : length p < 65536) (bytes : Bytes p) (same : (i : ℕ) → i < line_length (length p) → get_or text (pos + i) 0 ≡ get_or (frame kind p) i 0) where
-  framed-small : (j : ℕ) → get_or (framed kind p) j 0 < 256
+  framed_small : (j : ℕ) → get_or (framed kind p) j 0 < 256
   unfolding Bytes framed two_bytes
-  framed-small zero = small
-  framed-small (suc zero) = omega arith
-  framed-small (suc (suc zero)) = omega arith
-  framed-small (suc (suc (suc j))) = bytes j
+  framed_small zero = small
+  framed_small (suc zero) = omega arith
+  framed_small (suc (suc zero)) = omega arith
+  framed_small (suc (suc (suc j))) = bytes j
 
   high_is : (j : ℕ) → j < 3 + length p → digit_of (get_or text (pos + 2 * j) 0) ≡ get_or (framed kind p) j 0 / 16
-  high_is j l = rw (same (2 * j) (omega arith), (frame_at kind p j l).0) (hex_digit (get_or (framed kind p) j 0 / 16) (omega (arith, framed-small j)))
+  high_is j l = rw (same (2 * j) (omega arith), (frame_at kind p j l).0) (hex_digit (get_or (framed kind p) j 0 / 16) (omega (arith, framed_small j)))
 
-  low-is : (j : ℕ) → j < 3 + length p → digit_of (get_or text (pos + (2 * j + 1)) 0) ≡ get_or (framed kind p) j 0 % 16
-  low-is j l = rw (same (2 * j + 1) (omega arith), (frame_at kind p j l).1) (hex_digit (get_or (framed kind p) j 0 % 16) (omega arith))
+  low_is : (j : ℕ) → j < 3 + length p → digit_of (get_or text (pos + (2 * j + 1)) 0) ≡ get_or (framed kind p) j 0 % 16
+  low_is j l = rw (same (2 * j + 1) (omega arith), (frame_at kind p j l).1) (hex_digit (get_or (framed kind p) j 0 % 16) (omega arith))
 
-  byte-read : (j i : ℕ) → i ≡ pos + 2 * j → j < 3 + length p → byte_at text i ≡ get_or (framed kind p) j 0
+  byte_read : (j i : ℕ) → i ≡ pos + 2 * j → j < 3 + length p → byte_at text i ≡ get_or (framed kind p) j 0
   unfolding byte_at
-  byte-read j i q l =
+  byte_read j i q l =
       let z : pos + 2 * j + 1 ≡ pos + (2 * j + 1) = omega arith in
-      rw (q, z, high_is j l, low-is j l) (omega arith)
+      rw (q, z, high_is j l, low_is j l) (omega arith)
 
-  digit-read : (i : ℕ) → i < digits_length (length p) → digit_fits text pos i ≡ true
+  digit_read : (i : ℕ) → i < digits_length (length p) → digit_fits text pos i ≡ true
   unfolding digit_fits
-  digit-read i l =
+  digit_read i l =
       ⊎_elim
-      (λ h. let q : i ≡ 2 * (i / 2) = omega arith in lt-ltb _ 16 (subst (λ (n : ℕ). digit_of (get_or text (pos + n) 0) < 16) (sym q) (omega (arith, high_is (i / 2) (omega arith), framed-small (i / 2)))))
-      (λ h. let q : i ≡ 2 * (i / 2) + 1 = omega arith in lt-ltb _ 16 (subst (λ (n : ℕ). digit_of (get_or text (pos + n) 0) < 16) (sym q) (omega (arith, low-is (i / 2) (omega arith)))))
+      (λ h. let q : i ≡ 2 * (i / 2) = omega arith in lt-ltb _ 16 (subst (λ (n : ℕ). digit_of (get_or text (pos + n) 0) < 16) (sym q) (omega (arith, high_is (i / 2) (omega arith), framed_small (i / 2)))))
+      (λ h. let q : i ≡ 2 * (i / 2) + 1 = omega arith in lt-ltb _ 16 (subst (λ (n : ℕ). digit_of (get_or text (pos + n) 0) < 16) (sym q) (omega (arith, low_is (i / 2) (omega arith)))))
       (le_or_lt (i % 2) 0)
 
-  pub frame-read : frame_fits kind (length p) text pos ≡ true
+  pub frame_read : frame_fits kind (length p) text pos ≡ true
   unfolding framed two_bytes
-  frame-read =
+  frame_read =
       let w = length p in
       sym
-      (frame-rest kind w text pos (byte_at text pos) (byte_at text (pos + 2)) (byte_at text (pos + 4)) (get_or text (pos + digits_length w) 0) true refl
-      (byte-read 0 pos (omega arith) (omega arith))
+      (frame_rest kind w text pos (byte_at text pos) (byte_at text (pos + 2)) (byte_at text (pos + 4)) (get_or text (pos + digits_length w) 0) true refl
+      (byte_read 0 pos (omega arith) (omega arith))
       refl
       refl
-      (rw (byte-read 1 (pos + 2) (omega arith) (omega arith), byte-read 2 (pos + 4) (omega arith) (omega arith)) (omega arith))
+      (rw (byte_read 1 (pos + 2) (omega arith) (omega arith), byte_read 2 (pos + 4) (omega arith) (omega arith)) (omega arith))
       refl
-      (same (digits_length w) (omega arith) ∙ frame-newline kind p)
-      (sym (all-by (digit_fits text pos) (digits_length w) digit-read)))
+      (same (digits_length w) (omega arith) ∙ frame_newline kind p)
+      (sym (all_by (digit_fits text pos) (digits_length w) digit_read)))
 
-  pub payload-read : payload (length p) text pos ≡ p
-  payload-read =
+  pub payload_read : payload (length p) text pos ≡ p
+  payload_read =
       ext_get_or 0 (payload (length p) text pos) p (length_payload (length p) text pos)
       (λ i l.
       let k : i < length p = rw (length_payload (length p) text pos) at l in
       let j : 3 + i - 3 ≡ i = omega arith in
-      get_or_payload text pos (length p) i k ∙ byte-read (3 + i) (pos + digits_length i) (omega arith) (omega arith) ∙ sym (byte-rest kind p (3 + i) (omega arith)) ∙ ap (λ (n : ℕ). get_or p n 0) j)
+      get_or_payload text pos (length p) i k ∙ byte_read (3 + i) (pos + digits_length i) (omega arith) (omega arith) ∙ sym (byte_rest kind p (3 + i) (omega arith)) ∙ ap (λ (n : ℕ). get_or p n 0) j)

@@ -8,10 +8,10 @@ use lib.Seq.{take-suc, take-take, take-add, take-append_seam, drop-append_seam}
 use Rattle.paper.specs.Lists.{tabulate}
 
 -- the first value in front
-pub tabulate-cons {ℓ} : {X : Type ℓ} (n : ℕ) (f : ℕ → X) → tabulate (suc n) f ≡ f 0 ∷ tabulate n (λ i. f (suc i))
+pub tabulate_cons {ℓ} : {X : Type ℓ} (n : ℕ) (f : ℕ → X) → tabulate (suc n) f ≡ f 0 ∷ tabulate n (λ i. f (suc i))
 unfolding tabulate
-tabulate-cons zero f = refl
-tabulate-cons {X} (suc n) f = ap (λ (l : List X). l ++ (f (suc n) ∷ [])) (tabulate-cons n f)
+tabulate_cons zero f = refl
+tabulate_cons {X} (suc n) f = ap (λ (l : List X). l ++ (f (suc n) ∷ [])) (tabulate_cons n f)
 
 -- two elements more
 pub take_two : (l : List ℕ) (n : ℕ) → suc n < length l → take (suc (suc n)) l ≡ take n l ++ (get_or l n 0 ∷ get_or l (suc n) 0 ∷ [])

@@ -12,7 +12,7 @@ use Rattle.paper.specs.Chart.{head_size}
 use Rattle.paper.specs.Check.{head_fits}
 use Rattle.pages.specs.Frames.{frame, line_length, payload, frame_fits}
 use Rattle.pages.specs.Texts.{Lines, bad_line, bad_head, chart, dues, lines_from, lines_after, text_most, lines_of_text}
-use Rattle.lists.proofs.Tests.{unless-passed}
+use Rattle.lists.proofs.Tests.{unless_passed}
 use Rattle.texts.specs.ChartText.{frames_of, text_of}
 use Rattle.texts.proofs.ListLaws.{begins}
 use Rattle.frames.proofs.FrameRead.{length_payload}
@@ -38,12 +38,12 @@ not_chart_head e = let z : ◌≡◌ {A = ℕ} 0 1 = cc in omega arith
 lines_back : (ds : List (ℕ × ℕ)) (text : List ℕ) (line pos : ℕ) (done c : List ℕ) → lines_from ds text line pos done ≡ chart c → (take (length done) c ≡ done) × (drop pos text ≡ frames_of c ds (length done))
 unfolding lines_from frames_of
 lines_back [] text line pos done c e =
-    let p = unless-passed (λ t. t ≡ chart c) (leb (length text) pos) (bad_line line) (chart done) not_chart e in
+    let p = unless_passed (λ t. t ≡ chart c) (leb (length text) pos) (bad_line line) (chart done) not_chart e in
     let q : chart done ≡ chart c = p.1 in
     let z : done ≡ c = cc in
     (rw z (take-length c), drop_of_length-le text (leb-true (length text) pos p.0))
 lines_back (d ∷ ds) text line pos done c e =
-    let p = unless-passed (λ t. t ≡ chart c) (frame_fits d.0 d.1 text pos) (bad_line line) (lines_from ds text (line + 1) (pos + line_length d.1) (done ++ payload d.1 text pos)) not_chart e in
+    let p = unless_passed (λ t. t ≡ chart c) (frame_fits d.0 d.1 text pos) (bad_line line) (lines_from ds text (line + 1) (pos + line_length d.1) (done ++ payload d.1 text pos)) not_chart e in
     let r = lines_back ds text (line + 1) (pos + line_length d.1) (done ++ payload d.1 text pos) c p.1 in
     line_back d.0 d.1 text pos done c (frames_of c ds) p.0 r.0 r.1
 
@@ -57,9 +57,9 @@ unfolding lines_of_text lines_after text_of frames_of
 text_back text c e =
     let head : List ℕ = payload head_size text 0 in
     let Is : Lines → Type 0 = λ t. t ≡ chart c in
-    let short = unless-passed Is (leb (length text) text_most) _ _ not_chart e in
-    let fits = unless-passed Is (frame_fits 0x01 head_size text 0) _ _ not_chart short.1 in
-    let sizes = unless-passed Is (head_fits head) bad_head (lines_from (dues head) text 2 (line_length head_size) head) not_chart_head fits.1 in
+    let short = unless_passed Is (leb (length text) text_most) _ _ not_chart e in
+    let fits = unless_passed Is (frame_fits 0x01 head_size text 0) _ _ not_chart short.1 in
+    let sizes = unless_passed Is (head_fits head) bad_head (lines_from (dues head) text 2 (line_length head_size) head) not_chart_head fits.1 in
     let r = lines_back (dues head) text 2 (line_length head_size) head c sizes.1 in
     let n : length head ≡ head_size = length_payload head_size text 0 in
     let t : take head_size c ≡ head = subst (λ (i : ℕ). take i c ≡ head) n r.0 in

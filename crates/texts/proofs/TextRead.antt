@@ -17,8 +17,8 @@ use Rattle.algebra.specs.Sizes.{Sizes}
 use Rattle.chart.proofs.Ranges.{sizes_are}
 use Rattle.lists.proofs.Bound.{le_or_lt, product}
 use Rattle.texts.specs.ChartText.{frames_of, text_of}
-use Rattle.frames.proofs.FrameWritten.{length-frame}
-use Rattle.texts.proofs.FrameBack.{Bytes, frame-read, payload-read}
+use Rattle.frames.proofs.FrameWritten.{length_frame}
+use Rattle.texts.proofs.FrameBack.{Bytes, frame_read, payload_read}
 use Rattle.dues.proofs.Dues.{sum_due, sum_replicate, bytes_due}
 use Rattle.texts.proofs.TextBack.{dues_same, text_back}
 
@@ -38,7 +38,7 @@ length_run c at w h = length-take-le w (drop at c) (simp length-drop (omega arit
 -- one frame in its place
 frame_in : (kind : ℕ) (p before behind text : List ℕ) → text ≡ before ++ (frame kind p ++ behind) → (i : ℕ) → i < line_length (length p) → get_or text (length before + i) 0 ≡ get_or (frame kind p) i 0
 frame_in kind p before behind text q i l =
-    rw (q, get_or-append-add before (frame kind p ++ behind) i 0) (get_or-append (frame kind p) behind 0 i (omega (arith, length-frame kind p)))
+    rw (q, get_or-append-add before (frame kind p ++ behind) i 0) (get_or-append (frame kind p) behind 0 i (omega (arith, length_frame kind p)))
 
 line_read : (c : List ℕ) (kind w : ℕ) (text before behind : List ℕ) (pos at : ℕ) → Bytes c → kind < 256 → w < 65536 → pos ≡ length before → text ≡ before ++ (frame kind (take w (drop at c)) ++ behind) → at + w ≤ length c → (frame_fits kind w text pos ≡ true) × (take at c ++ payload w text pos ≡ take (at + w) c)
 line_read c kind w text before behind pos at b small few z q h =
@@ -46,8 +46,8 @@ line_read c kind w text before behind pos at b small few z q h =
     let n : length p ≡ w = length_run c at w h in
     let same : (i : ℕ) → i < line_length (length p) → get_or text (pos + i) 0 ≡ get_or (frame kind p) i 0 = λ i l. rw z (frame_in kind p before behind text q i l) in
     let few' : length p < 65536 = omega arith in
-    let r : payload w text pos ≡ p = subst (λ (k : ℕ). payload k text pos ≡ p) n (payload-read kind p text pos small few' (bytes_part c at w b) same) in
-    (subst (λ (k : ℕ). frame_fits kind k text pos ≡ true) n (frame-read kind p text pos small few' (bytes_part c at w b) same), rw r (sym (take-add at w c)))
+    let r : payload w text pos ≡ p = subst (λ (k : ℕ). payload k text pos ≡ p) n (payload_read kind p text pos small few' (bytes_part c at w b) same) in
+    (subst (λ (k : ℕ). frame_fits kind k text pos ≡ true) n (frame_read kind p text pos small few' (bytes_part c at w b) same), rw r (sym (take-add at w c)))
 
 -- ---- line after line
 
@@ -65,7 +65,7 @@ lines_read c (d ∷ ds) text before line pos at b s z q h =
     let p : List ℕ = take d.1 (drop at c) in
     let n : length p ≡ d.1 = length_run c at d.1 (omega arith) in
     let r = line_read c d.0 d.1 text before (frames_of c ds (at + d.1)) pos at b s.0 s.1 z q (omega arith) in
-    let z' : pos + line_length d.1 ≡ length (before ++ frame d.0 p) = omega (arith, length-append before (frame d.0 p), length-frame d.0 p) in
+    let z' : pos + line_length d.1 ≡ length (before ++ frame d.0 p) = omega (arith, length-append before (frame d.0 p), length_frame d.0 p) in
     let m : at + (d.1 + bytes_due ds) ≡ at + d.1 + bytes_due ds = omega arith in
     simp (r.0, r.1, m)
     (lines_read c ds text (before ++ frame d.0 p) (line + 1) (pos + line_length d.1) (at + d.1) b s.2 z' (q ∙ sym (append_assoc before (frame d.0 p) (frames_of c ds (at + d.1)))) (omega arith))
@@ -94,7 +94,7 @@ unfolding frames_of sum_due
 length_frames c [] at h = refl
 length_frames c (d ∷ ds) at h =
     let p : List ℕ = take d.1 (drop at c) in
-    omega (arith, length-append (frame d.0 p) (frames_of c ds (at + d.1)), length-frame d.0 p, length_run c at d.1 (omega arith), length_frames c ds (at + d.1) (omega arith))
+    omega (arith, length-append (frame d.0 p) (frames_of c ds (at + d.1)), length_frame d.0 p, length_run c at d.1 (omega arith), length_frames c ds (at + d.1) (omega arith))
 
 -- a chart's text is short enough
 length_all : (k n m : ℕ) → k ≤ 16 → n ≤ 24 → m ≤ 16 → line_length head_size + length_due (dues_from k n m 5 2) ≤ text_most
@@ -121,32 +121,32 @@ module _ (c : List ℕ) (bytes : Bytes c) (fits : head_fits c ≡ true) (n : len
   total = bytes_chart c ∙ sym n
 
   -- at most 22,493 bytes
-  pub length-text : length (text_of c) ≤ text_most
+  pub length_text : length (text_of c) ≤ text_most
   unfolding text_of frames_of dues head
-  length-text =
+  length_text =
       omega
-      (arith, length-append (frame 0x01 head) (frames_of c (dues c) head_size), length-frame 0x01 head, length-take-le head_size c (omega (arith, total)), length_frames c (dues c) head_size (omega (arith, total)), length_all (k_of c) (n_of c) (m_of c) sizes.k_high sizes.n_high sizes.m_high)
+      (arith, length-append (frame 0x01 head) (frames_of c (dues c) head_size), length_frame 0x01 head, length-take-le head_size c (omega (arith, total)), length_frames c (dues c) head_size (omega (arith, total)), length_all (k_of c) (n_of c) (m_of c) sizes.k_high sizes.n_high sizes.m_high)
 
   first : (frame_fits 0x01 head_size (text_of c) 0 ≡ true) × (payload head_size (text_of c) 0 ≡ head)
   unfolding text_of frames_of head
   first = line_read c 0x01 head_size (text_of c) [] (frames_of c (dues c) head_size) 0 0 bytes (omega arith) (omega arith) refl refl (omega (arith, total))
 
-  head-fits : head_fits head ≡ true
+  head_fits_lem : head_fits head ≡ true
   unfolding head_fits head
-  head-fits =
+  head_fits_lem =
       rw (get_or-take head_size c 0 0 (omega arith), get_or-take head_size c 1 0 (omega arith), get_or-take head_size c 2 0 (omega arith), get_or-take head_size c 3 0 (omega arith)) fits
 
   rest : lines_from (dues c) (text_of c) 2 (line_length head_size) head ≡ chart c
   unfolding text_of frames_of dues head
   rest =
       let l : length head ≡ head_size = length-take-le head_size c (omega (arith, total)) in
-      lines_read c (dues c) (text_of c) (frame 0x01 head) 2 (line_length head_size) head_size bytes (small_dues (k_of c) (n_of c) (m_of c) sizes.k_high sizes.n_high) (omega (arith, length-frame 0x01 head)) refl (omega (arith, total))
+      lines_read c (dues c) (text_of c) (frame 0x01 head) 2 (line_length head_size) head_size bytes (small_dues (k_of c) (n_of c) (m_of c) sizes.k_high sizes.n_high) (omega (arith, length_frame 0x01 head)) refl (omega (arith, total))
       ∙ rw (total, take-length)
 
-  pub text-read : lines_of_text (text_of c) ≡ chart c
+  pub text_read : lines_of_text (text_of c) ≡ chart c
   unfolding lines_of_text lines_after head
-  text-read = rw (le-leb (length (text_of c)) text_most length-text, first.0, first.1, head-fits, dues_same c head refl) rest
+  text_read = rw (le-leb (length (text_of c)) text_most length_text, first.0, first.1, head_fits_lem, dues_same c head refl) rest
 
   -- a text is read as the chart exactly where it is the chart's text
-  pub reads-exactly : (text : List ℕ) → (lines_of_text text ≡ chart c) ↔ (text ≡ text_of c)
-  reads-exactly text = (text_back text c, λ q. rw q text-read)
+  pub reads_exactly : (text : List ℕ) → (lines_of_text text ≡ chart c) ↔ (text ≡ text_of c)
+  reads_exactly text = (text_back text c, λ q. rw q text_read)

@@ -21,31 +21,31 @@ use Rattle.walk.proofs.VectorPlan.{vector_plan}
 
 module _ (kind : Kind) (c : List ℕ) (s : Shape) (fits : chart_fits c ≡ true) (h : Shaped c s) (room : ℕ) (table vectors : List ℕ) where
   -- the room as the code tests it
-  pub room-read : {b : Bool} → room_fits state_most s.letters s.n room (length table) (length vectors) ≡ b → forward_room c room table vectors ≡ b
+  pub room_read : {b : Bool} → room_fits state_most s.letters s.n room (length table) (length vectors) ≡ b → forward_room c room table vectors ≡ b
   unfolding forward_room
-  room-read e = rw (← h.letters_is, ← h.n_is) e
+  room_read e = rw (← h.letters_is, ← h.n_is) e
 
-  pub build-room : forward_room c room table vectors ≡ false → record { reply = (5, []); table = table; vectors = vectors } ≡ forward c (vectors_by kind c) room table vectors
+  pub build_room : forward_room c room table vectors ≡ false → record { reply = (5, []); table = table; vectors = vectors } ≡ forward c (vectors_by kind c) room table vectors
   unfolding forward
-  build-room e = simp (fits, e)
+  build_room e = simp (fits, e)
 
-  states-are : states_by (vector_plan kind s room) c c ≡ states_of (vectors_by kind c) (letters c) room
-  states-are = rw (h.letters_is, h.n_is)
+  states_are : states_by (vector_plan kind s room) c c ≡ states_of (vectors_by kind c) (letters c) room
+  states_are = rw (h.letters_is, h.n_is)
 
   module _ (ok : forward_room c room table vectors ≡ true) (table' vectors' : List ℕ) (r : Grown) (m : MadeAs (vector_plan kind s room) c c table table' vectors vectors' r) where
-    pub build-full : r ≡ Full → (t v : List ℕ) → t ≡ zeros table → v ≡ zeros vectors → record { reply = (7, []); table = t; vectors = v } ≡ forward c (vectors_by kind c) room table vectors
+    pub build_full : r ≡ Full → (t v : List ℕ) → t ≡ zeros table → v ≡ zeros vectors → record { reply = (7, []); table = t; vectors = v } ≡ forward c (vectors_by kind c) room table vectors
     unfolding forward forward_built
-    build-full e t v et ev =
+    build_full e t v et ev =
         let o : room < length (states_of (vectors_by kind c) (letters c) room) =
-        rw (← states-are) (subst (λ (g : Grown). MadeAs (vector_plan kind s room) c c table table' vectors vectors' g) e m) in
+        rw (← states_are) (subst (λ (g : Grown). MadeAs (vector_plan kind s room) c c table table' vectors vectors' g) e m) in
         simp (et, ev, fits, ok, lt-ltb room (length (states_of (vectors_by kind c) (letters c) room)) o)
 
-    pub build-done : (count : ℕ) → r ≡ Held count → record { reply = (0, count ∷ []); table = table'; vectors = vectors' } ≡ forward c (vectors_by kind c) room table vectors
+    pub build_done : (count : ℕ) → r ≡ Held count → record { reply = (0, count ∷ []); table = table'; vectors = vectors' } ≡ forward c (vectors_by kind c) room table vectors
     unfolding forward forward_built
-    build-done count e =
+    build_done count e =
         let d : Made (vector_plan kind s room) c c table table' vectors vectors' count =
         subst (λ (g : Grown). MadeAs (vector_plan kind s room) c c table table' vectors vectors' g) e m in
-        let n : count ≡ length (states_of (vectors_by kind c) (letters c) room) = d.count_is ∙ ap length states-are in
+        let n : count ≡ length (states_of (vectors_by kind c) (letters c) room) = d.count_is ∙ ap length states_are in
         let l : length (states_of (vectors_by kind c) (letters c) room) ≤ room = rw (← n) d.roomy in
         let et : table' ≡ in_front (table_of (vectors_by kind c) (letters c) (states_of (vectors_by kind c) (letters c) room)) table =
         d.table_is ∙ rw (h.letters_is, h.n_is) in

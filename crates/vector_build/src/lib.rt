@@ -1,4 +1,6 @@
 // The table of a checked chart whose states are vectors.
+#![tactic(auto)]
+
 ghost use Rattle.std.specs.Prelude.{◌≡◌, true};
 ghost use Rattle.replies.specs.Replies.{built_said};
 ghost use Rattle.paper.specs.Builders.{forward};

@@ -12,7 +12,7 @@ use Rattle.replies.specs.declared.Shape.{Shape}
 use Rattle.paper.specs.Lists.{tabulate, in_front, zeros}
 use Rattle.paper.specs.Chart.{n_of, join, prod, entry}
 use Rattle.paper.specs.Vectors.{joins, combine_term, combine, row_term, row_entry, row_times, col_entry, times_col}
-use Rattle.lists.proofs.ByPlace.{length-tabulate, get_d_tabulate, tabulate-cong}
+use Rattle.lists.proofs.ByPlace.{length_tabulate, get_or_tabulate, tabulate_cong}
 use Rattle.lists.proofs.Front.{front_front}
 use Rattle.lists.proofs.Lent.{in_front_none, in_front_tabulate, get_or_in_front, get_or_behind, front_is}
 use Rattle.cells.specs.Shaped.{Shaped, Read}
@@ -31,14 +31,14 @@ joins_more c f p a b r = record { is = r.is ∙ rw (a, b, add-one); low = r.low 
 -- ---- two vectors combined
 
 module _ (c v w : List ℕ) where
-  pub combine-more : (p : ℕ) {k sum a b g r : ℕ} → Read (joins c p (combine_term c v w)) k sum → a ≡ get_or v p 0 → b ≡ get_or w p 0 → g ≡ prod c a b →
+  pub combine_more : (p : ℕ) {k sum a b g r : ℕ} → Read (joins c p (combine_term c v w)) k sum → a ≡ get_or v p 0 → b ≡ get_or w p 0 → g ≡ prod c a b →
       Read (join c sum g) k r → Read (joins c (p + 1) (combine_term c v w)) k r
   unfolding combine_term
-  combine-more p s ea eb eg r = joins_more c (combine_term c v w) p s.is (rw (eg, ea, eb)) r
+  combine_more p s ea eb eg r = joins_more c (combine_term c v w) p s.is (rw (eg, ea, eb)) r
 
-  pub combine-end : {s : Shape} (p : ℕ) {r : ℕ} → Shaped c s → p ≡ s.n → Read (joins c p (combine_term c v w)) s.k r → Read (combine c v w) s.k r
+  pub combine_end : {s : Shape} (p : ℕ) {r : ℕ} → Shaped c s → p ≡ s.n → Read (joins c p (combine_term c v w)) s.k r → Read (combine c v w) s.k r
   unfolding combine
-  combine-end p h e r = record { is = r.is ∙ rw (e, h.n_is); low = r.low }
+  combine_end p h e r = record { is = r.is ∙ rw (e, h.n_is); low = r.low }
 
 -- ---- a matrix times a column, entry by entry
 
@@ -68,14 +68,14 @@ pub record Joining (c : List ℕ) (k n x p a : ℕ) (old out : List ℕ) (q : �
   pub grades : Grades k n out
 
 module _ (c : List ℕ) (k n x p a : ℕ) (old : List ℕ) where
-  pub joining-start : Grades k n old → Joining c k n x p a old old 0
+  pub joining_start : Grades k n old → Joining c k n x p a old old 0
   unfolding tabulate
-  joining-start g = record { reached = omega arith; same = refl; is = in_front_none old; grades = g }
+  joining_start g = record { reached = omega arith; same = refl; is = in_front_none old; grades = g }
 
-  pub joining-more : (out : List ℕ) (q : ℕ) {e t r : ℕ} → Joining c k n x p a old out q → q < n → e ≡ entry c x p q → t ≡ prod c a e →
+  pub joining_more : (out : List ℕ) (q : ℕ) {e t r : ℕ} → Joining c k n x p a old out q → q < n → e ≡ entry c x p q → t ≡ prod c a e →
       Read (join c (get_or out q 0) t) k r → Joining c k n x p a old (set out q r) (q + 1)
   unfolding joined_at
-  joining-more out q {e} {t} {r} j h ee et er =
+  joining_more out q {e} {t} {r} j h ee et er =
       record {
         reached = omega arith;
         same = rw length-set j.same;
@@ -84,10 +84,10 @@ module _ (c : List ℕ) (k n x p a : ℕ) (old : List ℕ) where
       }
     where
       unread : get_or out q 0 ≡ get_or old q 0
-      unread = rw j.is (get_or_behind (tabulate q (joined_at c x p a old)) old q (rw length-tabulate (le_refl q)))
+      unread = rw j.is (get_or_behind (tabulate q (joined_at c x p a old)) old q (rw length_tabulate (le_refl q)))
 
-  pub joining-end : (out : List ℕ) (q : ℕ) → Joining c k n x p a old out q → q ≡ n → RowJoined c k n x p a old out
-  joining-end out q j e = record { is = rw (← e) j.is; low = j.grades }
+  pub joining_end : (out : List ℕ) (q : ℕ) → Joining c k n x p a old out q → q ≡ n → RowJoined c k n x p a old out
+  joining_end out q j e = record { is = rw (← e) j.is; low = j.grades }
 
 -- ---- all rows, one after the other
 
@@ -122,32 +122,32 @@ module _ (c : List ℕ) (k n x : ℕ) (v old : List ℕ) where
         same = s ∙ r.same;
         is =
             j.is
-            ∙ ap (λ front. in_front front out) (tabulate-cong n (joined_at c x p a out) (rows_at c x v (p + 1)) (λ q l. rw (add-one, e, at q l)))
+            ∙ ap (λ front. in_front front out) (tabulate_cong n (joined_at c x p a out) (rows_at c x v (p + 1)) (λ q l. rw (add-one, e, at q l)))
             ∙ ap (in_front (tabulate n (rows_at c x v (p + 1)))) r.is
-            ∙ front_front (tabulate n (rows_at c x v (p + 1))) (tabulate n (rows_at c x v p)) old (rw (length-tabulate, length-tabulate) (le_refl n));
+            ∙ front_front (tabulate n (rows_at c x v (p + 1))) (tabulate n (rows_at c x v p)) old (rw (length_tabulate, length_tabulate) (le_refl n));
         grades = j.low;
       }
     where
       at : (q : ℕ) → q < n → get_or out q 0 ≡ rows_at c x v p q
-      at q l = rw r.is (get_or_in_front (tabulate n (rows_at c x v p)) old q (rw length-tabulate l) ∙ get_d_tabulate n (rows_at c x v p) 0 q l)
+      at q l = rw r.is (get_or_in_front (tabulate n (rows_at c x v p)) old q (rw length_tabulate l) ∙ get_or_tabulate n (rows_at c x v p) 0 q l)
 
-  pub rowing-end : (out : List ℕ) (p : ℕ) → Rowing c k n x v old out p → p ≡ n → n ≡ n_of c → out ≡ in_front (row_times c x v) old
+  pub rowing_end : (out : List ℕ) (p : ℕ) → Rowing c k n x v old out p → p ≡ n → n ≡ n_of c → out ≡ in_front (row_times c x v) old
   unfolding row_times row_entry rows_at
-  rowing-end out p r e f = r.is ∙ rw (e, f)
+  rowing_end out p r e f = r.is ∙ rw (e, f)
 
 -- ---- the place zeroed, and the product written over the zeros
 
 module _ (n : ℕ) (old z : List ℕ) (fits : n ≤ length old) (zeroed : z ≡ zeros (take n old)) where
-  length-zeroed : length z ≡ n
-  length-zeroed = ap length zeroed ∙ length-replicate _ 0 ∙ length-take-le n old fits
+  length_zeroed : length z ≡ n
+  length_zeroed = ap length zeroed ∙ length-replicate _ 0 ∙ length-take-le n old fits
 
   pub blank : Blank n (z ++ drop n old)
   blank =
       record {
-        long = simp (length-append, length-drop) (omega (arith, length-zeroed));
-        zeros = λ q l. get_or-append z (drop n old) 0 q (rw length-zeroed l) ∙ ap (λ y. get_or y q 0) zeroed ∙ get_or-replicate (length (take n old)) q 0 0 (rw (length-take-le n old fits) l);
+        long = simp (length-append, length-drop) (omega (arith, length_zeroed));
+        zeros = λ q l. get_or-append z (drop n old) 0 q (rw length_zeroed l) ∙ ap (λ y. get_or y q 0) zeroed ∙ get_or-replicate (length (take n old)) q 0 0 (rw (length-take-le n old fits) l);
       }
 
-  pub row-over : (c : List ℕ) (x : ℕ) (v out : List ℕ) → n ≡ n_of c → out ≡ in_front (row_times c x v) (z ++ drop n old) → out ≡ in_front (row_times c x v) old
+  pub row_over : (c : List ℕ) (x : ℕ) (v out : List ℕ) → n ≡ n_of c → out ≡ in_front (row_times c x v) (z ++ drop n old) → out ≡ in_front (row_times c x v) old
   unfolding in_front row_times
-  row-over c x v out e o = o ∙ rw (length-tabulate, ← e, drop_at z (drop n old) n length-zeroed)
+  row_over c x v out e o = o ∙ rw (length_tabulate, ← e, drop_at z (drop n old) n length_zeroed)

@@ -14,11 +14,11 @@ use Rattle.paper.specs.Lists.{tabulate, joined, part, in_front, zeros}
 use Rattle.paper.specs.Numbering.{place}
 use Rattle.paper.specs.Constructions.{states_of, table_of}
 use Rattle.paper.specs.Builders.{place_of, placed}
-use Rattle.lists.proofs.ByPlace.{joined-cong, length_part, get_d_part}
+use Rattle.lists.proofs.ByPlace.{joined_cong, length_part, get_or_part}
 use Rattle.lists.proofs.Lent.{length_in_front, get_or_in_front, get_or_behind}
-use Rattle.numbering.proofs.Rest.{rest-start}
+use Rattle.numbering.proofs.Rest.{rest_start}
 use Rattle.places.specs.Search.{place_at, values, place_for}
-use Rattle.places.proofs.Search.{length-values, values-at}
+use Rattle.places.proofs.Search.{length_values, values_at}
 use Rattle.marks.specs.Chains.{buckets}
 use Rattle.marks.proofs.ChainLaws.{chained_none}
 use Rattle.kinds.specs.Kinds.{made}
@@ -30,7 +30,7 @@ use Rattle.places.specs.declared.Place.{Place}
 use Rattle.kinds.specs.declared.Plan.{Plan}
 use Rattle.nexts.specs.declared.Grown.{Grown}
 use Rattle.nexts.specs.declared.Grown.TheVariants.{Held, Full}
-use Rattle.places.proofs.Memory.{joined_part, length-place, place_byte, place_here, apart-spliced, apart_trans}
+use Rattle.places.proofs.Memory.{joined_part, length_place, place_byte, place_here, apart_spliced, apart_trans}
 use Rattle.kinds.proofs.KindLaws.{made_first}
 
 -- ---- kept values in their places
@@ -38,10 +38,10 @@ use Rattle.kinds.proofs.KindLaws.{made_first}
 module _ (stride w h room : ℕ) (vs : List (List ℕ)) (old buf : List ℕ) (inside : w ≤ stride) (listed : values stride w h buf ≡ vs) (apart : Apart stride w (suc room) old buf)
     (few : h ≤ room) (fits : suc room * stride ≤ length buf) where
   count : length vs ≡ h
-  count = rw (← listed) (length-values stride w h buf)
+  count = rw (← listed) (length_values stride w h buf)
 
-  value-at : (s : ℕ) → s < h → get_or vs s [] ≡ place_at stride w buf s
-  value-at s l = rw (← listed) (values-at stride w h buf s l)
+  value_at : (s : ℕ) → s < h → get_or vs s [] ≡ place_at stride w buf s
+  value_at s l = rw (← listed) (values_at stride w h buf s l)
 
   within : (s : ℕ) → s < h → suc s * stride ≤ length buf
   within s l =
@@ -54,26 +54,26 @@ module _ (stride w h room : ℕ) (vs : List (List ℕ)) (old buf : List ℕ) (in
   place_is s l =
       let lb : length (part stride s buf) ≡ stride = length_part stride s buf (within s l) in
       let lo : length (part stride s old) ≡ stride = length_part stride s old (rw (← apart.long) (within s l)) in
-      let lv : length (get_or vs s []) ≡ w = rw (value-at s l) (length-place stride w buf s (omega (arith, within s l, suc-mul s stride))) in
+      let lv : length (get_or vs s []) ≡ w = rw (value_at s l) (length_place stride w buf s (omega (arith, within s l, suc-mul s stride))) in
       let fit : length (get_or vs s []) ≤ length (part stride s old) = omega arith in
       ext_get_or 0 (part stride s buf) (in_front (get_or vs s []) (part stride s old)) (lb ∙ sym (length_in_front (get_or vs s []) (part stride s old) fit ∙ lo))
       (λ j b. byte lv j (rw lb at b) (dec_lt j w))
     where
       byte : length (get_or vs s []) ≡ w → (j : ℕ) → j < stride → Dec (j < w) → get_or (part stride s buf) j 0 ≡ get_or (in_front (get_or vs s []) (part stride s old)) j 0
       byte lv j b (yes d) =
-          get_d_part stride s buf 0 j b
+          get_or_part stride s buf 0 j b
           ∙ sym (place_byte stride w buf s j d)
-          ∙ ap (λ y. get_or y j 0) (sym (value-at s l))
+          ∙ ap (λ y. get_or y j 0) (sym (value_at s l))
           ∙ sym (get_or_in_front (get_or vs s []) (part stride s old) j (omega arith))
       byte lv j b (no d) =
-          get_d_part stride s buf 0 j b
+          get_or_part stride s buf 0 j b
           ∙ apart.rest s j (omega arith) b
-          ∙ sym (get_or_behind (get_or vs s []) (part stride s old) j (omega arith) ∙ get_d_part stride s old 0 j b)
+          ∙ sym (get_or_behind (get_or vs s []) (part stride s old) j (omega arith) ∙ get_or_part stride s old 0 j b)
 
   front : take (h * stride) buf ≡ joined (length vs) (place_of stride vs old)
   front =
       sym (joined_part stride h buf)
-      ∙ joined-cong h (λ s. part stride s buf) (place_of stride vs old) place_is
+      ∙ joined_cong h (λ s. part stride s buf) (place_of stride vs old) place_is
       ∙ ap (λ k. joined k (place_of stride vs old)) (sym count)
 
   -- the places behind the kept ones zeroed, from a part that was lent
@@ -116,17 +116,17 @@ module _ (p : Plan) (c t table old first : List ℕ) (a : GrowAsks p c t table o
   roomy = omega (arith, zero-mul p.stride, suc-mul p.room p.stride, a.fits, inside)
 
   begun : Apart p.stride p.width (suc p.room) old first
-  begun = rw whole (apart-spliced p.stride p.width 0 (made p c t).first old value.long inside roomy (suc p.room) (omega arith))
+  begun = rw whole (apart_spliced p.stride p.width 0 (made p c t).first old value.long inside roomy (suc p.room) (omega arith))
 
   here : place_at p.stride p.width first 0 ≡ (made p c t).first
   here = rw whole (place_here p.stride p.width 0 (made p c t).first old value.long inside (omega (arith, zero-mul p.stride)))
 
-  pub first-value : Value p.shape.k p.width (place_at p.stride p.width first 0)
-  first-value = rw here value
+  pub first_value : Value p.shape.k p.width (place_at p.stride p.width first 0)
+  first_value = rw here value
 
   -- no place is held, and the index is empty
-  pub none-held : (heads links marks : List ℕ) → heads ≡ replicate buckets 0 → 4097 ≡ length links → 4097 ≡ length marks → Holds c p first (heads, links, marks) 0
-  none-held heads links marks e l m =
+  pub none_held : (heads links marks : List ℕ) → heads ≡ replicate buckets 0 → 4097 ≡ length links → 4097 ≡ length marks → Holds c p first (heads, links, marks) 0
+  none_held heads links marks e l m =
       record {
         valued =
             record {
@@ -139,8 +139,8 @@ module _ (p : Plan) (c t table old first : List ℕ) (a : GrowAsks p c t table o
         chained = chained_none heads links marks e;
       }
 
-  pub one-held : (index : Index) (found : Place) → Sought p c first index 0 found → WalkAsks p c t table first index
-  one-held index found s =
+  pub one_held : (index : Index) (found : Place) → Sought p c first index 0 found → WalkAsks p c t table first index
+  one_held index found s =
       let n : found ≡ Place.Nowhere = s.answer ∙ nowhere (place (made p c t).key (kept_in p 0 first) (place_at p.stride p.width first 0)) in
       record {
         ready = a.ready;
@@ -149,13 +149,13 @@ module _ (p : Plan) (c t table old first : List ℕ) (a : GrowAsks p c t table o
       }
 
   -- the walk from it lists the construction's states
-  walk-states : walked p c t first ≡ states_by p c t
+  walk_states : walked p c t first ≡ states_by p c t
   unfolding values tabulate states_of
-  walk-states = rw here (rest-start (made p c t).key (made p c t).step p.shape.letters p.room (made p c t).first)
+  walk_states = rw here (rest_start (made p c t).key (made p c t).step p.shape.letters p.room (made p c t).first)
 
   module _ (table' new : List ℕ) (r : Grown) (w : WalkedAs p c t table table' first new r) where
-    pub made-full : r ≡ Full → p.room < length (states_by p c t)
-    made-full e = rw (← walk-states) (subst (λ (g : Grown). WalkedAs p c t table table' first new g) e w)
+    pub made_full : r ≡ Full → p.room < length (states_by p c t)
+    made_full e = rw (← walk_states) (subst (λ (g : Grown). WalkedAs p c t table table' first new g) e w)
 
     module _ (h : ℕ) (e : r ≡ Held h) where
       done : Walked p c t table table' first new h
@@ -165,20 +165,20 @@ module _ (p : Plan) (c t table old first : List ℕ) (a : GrowAsks p c t table o
       few = done.roomy
 
       listed : kept_in p h new ≡ states_by p c t
-      listed = done.listed ∙ walk-states
+      listed = done.listed ∙ walk_states
 
-      kept-apart : Apart p.stride p.width (suc p.room) old new
-      kept-apart = apart_trans begun done.apart
+      kept_apart : Apart p.stride p.width (suc p.room) old new
+      kept_apart = apart_trans begun done.apart
 
-      pub fits-still : suc p.room * p.stride ≤ length new
-      fits-still = rw kept-apart.long a.fits
+      pub fits_still : suc p.room * p.stride ≤ length new
+      fits_still = rw kept_apart.long a.fits
 
-      pub made-done : (z : List ℕ) → z ≡ zeros (mid_of (h * p.stride) ((p.room + 1) * p.stride - h * p.stride) new) →
+      pub made_done : (z : List ℕ) → z ≡ zeros (mid_of (h * p.stride) ((p.room + 1) * p.stride - h * p.stride) new) →
           Made p c t table table' old (put_mid (h * p.stride) ((p.room + 1) * p.stride - h * p.stride) new z) h
-      made-done z ez =
+      made_done z ez =
           record {
-            count_is = sym (length-values p.stride p.width h new) ∙ ap length listed;
+            count_is = sym (length_values p.stride p.width h new) ∙ ap length listed;
             roomy = few;
-            table_is = done.table_is ∙ ap (λ (vs : List (List ℕ)). in_front (table_of (made p c t) p.shape.letters vs) table) walk-states;
-            vectors_is = zeroed p.stride p.width h p.room (states_by p c t) old new inside listed kept-apart few fits-still z ez;
+            table_is = done.table_is ∙ ap (λ (vs : List (List ℕ)). in_front (table_of (made p c t) p.shape.letters vs) table) walk_states;
+            vectors_is = zeroed p.stride p.width h p.room (states_by p c t) old new inside listed kept_apart few fits_still z ez;
           }

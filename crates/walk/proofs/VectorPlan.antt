@@ -5,7 +5,6 @@ use mathlib.Core.List.{List}
 use Prim.Native.Nat.{ℕ, ◌≤◌}
 use native.Mathlib.Omega.{arith}
 use lib.ListN.{length}
-use Rattle.paper.specs.Chart.{letters}
 use Rattle.paper.specs.Check.{chart_fits}
 use Rattle.paper.specs.Builders.{room_fits}
 use Rattle.replies.specs.declared.Shape.{Shape}
@@ -33,9 +32,9 @@ abbrev pub vector_plan : Kind → Shape → ℕ → Plan
 vector_plan kind s room = record { kind = kind; shape = s; width = s.n; stride = s.n; room = room }
 
 module _ (kind : Kind) (c : List ℕ) (s : Shape) (v : of_vectors kind ≡ true) (fits : chart_fits c ≡ true) (h : Shaped c s) where
-  pub vector-asks : (most room : ℕ) (t table vectors : List ℕ) → most ≤ 4096 → room_fits most s.letters s.n room (length table) (length vectors) ≡ true →
+  pub vector_asks : (most room : ℕ) (t table vectors : List ℕ) → most ≤ 4096 → room_fits most s.letters s.n room (length table) (length vectors) ≡ true →
       GrowAsks (vector_plan kind s room) c t table vectors
-  vector-asks most room t table vectors l r =
+  vector_asks most room t table vectors l r =
       let a = roomy most s.letters s.n room (length table) (length vectors) r in
       record {
         ready =

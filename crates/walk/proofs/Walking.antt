@@ -8,14 +8,14 @@ use lib.ListN.{length, get_or}
 use Rattle.paper.specs.Lists.{joined, in_front}
 use Rattle.paper.specs.Tables.{two_bytes, row_size}
 use Rattle.paper.specs.Constructions.{next_bytes, row_of, state_row, table_of}
-use Rattle.lists.proofs.ByPlace.{length-joined, joined-cong}
+use Rattle.lists.proofs.ByPlace.{length_joined, joined_cong}
 use Rattle.lists.proofs.Lent.{in_front_none}
 use Rattle.numbering.proofs.ListLaws.{extends_length}
-use Rattle.numbering.proofs.Kept.{expanded-extends}
-use Rattle.numbering.proofs.Rest.{rest, rest_end, rest_next, rest_over, rest-place, rest-value}
-use Rattle.numbering.proofs.TableBytes.{length-row}
+use Rattle.numbering.proofs.Kept.{expanded_extends}
+use Rattle.numbering.proofs.Rest.{rest, rest_end, rest_next, rest_over, rest_place, rest_value}
+use Rattle.numbering.proofs.TableBytes.{length_row}
 use Rattle.places.specs.Search.{place_at}
-use Rattle.places.proofs.Search.{length-values, values-at}
+use Rattle.places.proofs.Search.{length_values, values_at}
 use Rattle.kinds.specs.Kinds.{made}
 use Rattle.places.specs.Memory.{Apart}
 use Rattle.search.specs.Kept.{kept_in, Index, Holds}
@@ -56,13 +56,13 @@ module _ (p : Plan) (c t table₀ old : List ℕ) where
         table_is = in_front_none table₀;
       }
 
-  length-done : (i : ℕ) → length (joined i (state_row (made p c t) p.shape.letters all)) ≡ i * row_size p.shape.letters
+  length_done : (i : ℕ) → length (joined i (state_row (made p c t) p.shape.letters all)) ≡ i * row_size p.shape.letters
   unfolding state_row
-  length-done i = length-joined i (row_size p.shape.letters) _ (λ s h. length-row (made p c t) p.shape.letters all (get_or all s []))
+  length_done i = length_joined i (row_size p.shape.letters) _ (λ s h. length_row (made p c t) p.shape.letters all (get_or all s []))
 
   module _ {table new : List ℕ} {index : Index} {held i : ℕ} (so : WalkTo p c t table₀ table old new index held i) where
-    pub walk-asks : {index₀ : Index} → WalkAsks p c t table₀ old index₀ → i < held → ExpandAsks p c t i held table new index
-    walk-asks a h = record { ready = a.ready; below = h; roomy = so.roomy; holds = so.holds; table_fits = rw so.table_long a.table_fits }
+    pub walk_asks : {index₀ : Index} → WalkAsks p c t table₀ old index₀ → i < held → ExpandAsks p c t i held table new index
+    walk_asks a h = record { ready = a.ready; below = h; roomy = so.roomy; holds = so.holds; table_fits = rw so.table_long a.table_fits }
 
     module _ (h : i < held) where
       -- the value of state i
@@ -70,38 +70,38 @@ module _ (p : Plan) (c t table₀ old : List ℕ) where
       v = place_at p.stride p.width new i
 
       inside : i < length (kept_in p held new)
-      inside = rw length-values h
+      inside = rw length_values h
 
       few : length (kept_in p held new) ≤ p.room
-      few = rw length-values so.roomy
+      few = rw length_values so.roomy
 
-      state-i : get_or (kept_in p held new) i [] ≡ v
-      state-i = values-at p.stride p.width held new i h
+      state_i : get_or (kept_in p held new) i [] ≡ v
+      state_i = values_at p.stride p.width held new i h
 
       goes_on : rest (made p c t).key (made p c t).step p.shape.letters p.room (suc i) (grown p c t held v new) ≡ all
-      goes_on = rw (← state-i) (sym (rest_next (made p c t).key (made p c t).step p.shape.letters p.room i (kept_in p held new) inside few) ∙ so.listed)
+      goes_on = rw (← state_i) (sym (rest_next (made p c t).key (made p c t).step p.shape.letters p.room i (kept_in p held new) inside few) ∙ so.listed)
 
-      walk-full : p.room < length (grown p c t held v new) → p.room < length all
-      walk-full r =
+      walk_full : p.room < length (grown p c t held v new) → p.room < length all
+      walk_full r =
           rw (← so.listed)
-          (rest_over (made p c t).key (made p c t).step p.shape.letters p.room i (kept_in p held new) inside few p.shape.letters (omega arith) (rw state-i r))
+          (rest_over (made p c t).key (made p c t).step p.shape.letters p.room i (kept_in p held new) inside few p.shape.letters (omega arith) (rw state_i r))
 
       -- letter x's next state is its place in the end
-      next-stays : (x : ℕ) → x < p.shape.letters → found_bytes (made p c t) (kept_in p held new) v x ≡ next_bytes (made p c t) all v x
+      next_stays : (x : ℕ) → x < p.shape.letters → found_bytes (made p c t) (kept_in p held new) v x ≡ next_bytes (made p c t) all v x
       unfolding found_bytes next_bytes
-      next-stays x l =
+      next_stays x l =
           ap two_bytes
           (sym
-          (rw (state-i, so.listed)
-          at (rest-place (made p c t).key (made p c t).step p.shape.letters p.room i (kept_in p held new) inside few x l)))
+          (rw (state_i, so.listed)
+          at (rest_place (made p c t).key (made p c t).step p.shape.letters p.room i (kept_in p held new) inside few x l)))
 
       -- state i's row is the same in the end
       row_stays : row_in p c t held v new ≡ state_row (made p c t) p.shape.letters all i
       unfolding row_for nexts_for state_row row_of
       row_stays =
           let q : get_or all i [] ≡ v =
-          (rw so.listed at (rest-value (made p c t).key (made p c t).step p.shape.letters p.room i (kept_in p held new) inside few)) ∙ state-i in
-          rw (q, joined-cong p.shape.letters (found_bytes (made p c t) (kept_in p held new) v) (next_bytes (made p c t) all v) next-stays)
+          (rw so.listed at (rest_value (made p c t).key (made p c t).step p.shape.letters p.room i (kept_in p held new) inside few)) ∙ state_i in
+          rw (q, joined_cong p.shape.letters (found_bytes (made p c t) (kept_in p held new) v) (next_bytes (made p c t) all v) next_stays)
 
       walk_more : {table' new' : List ℕ} {index' : Index} {more : ℕ} →
           Taken p c t held v (spliced (i * row_size p.shape.letters) (row_in p c t held v new) table) table' new new' index' more → length table' ≡ length table →
@@ -112,33 +112,33 @@ module _ (p : Plan) (c t table₀ old : List ℕ) where
             below =
                 omega (
                   arith,
-                  length-values p.stride p.width more new',
+                  length_values p.stride p.width more new',
                   ap length d.listed,
-                  extends_length (expanded-extends (made p c t).key (made p c t).step v (kept_in p held new) p.shape.letters),
-                  length-values p.stride p.width held new,
+                  extends_length (expanded_extends (made p c t).key (made p c t).step v (kept_in p held new) p.shape.letters),
+                  length_values p.stride p.width held new,
                 );
             roomy = d.roomy;
             table_long = lt ∙ so.table_long;
             listed = rw (add-one, d.listed) goes_on;
             holds = d.holds;
             apart = apart_trans so.apart d.apart;
-            table_is = rw add-one (d.row_is ∙ in_front_splice _ table₀ _ table (i * row_size p.shape.letters) so.table_is (length-done i) ∙ rw row_stays);
+            table_is = rw add-one (d.row_is ∙ in_front_splice _ table₀ _ table (i * row_size p.shape.letters) so.table_is (length_done i) ∙ rw row_stays);
           }
 
       module _ (table' new' : List ℕ) (index' : Index) (r : Grown)
           (d : TakenAs p c t held v (spliced (i * row_size p.shape.letters) (row_in p c t held v new) table) table' new new' index' r) where
-        pub walk-stops : r ≡ Full → p.room < length (walked p c t old)
-        walk-stops e = walk-full (subst (λ (g : Grown). TakenAs p c t held v (spliced (i * row_size p.shape.letters) (row_in p c t held v new) table) table' new new' index' g) e d)
+        pub walk_stops : r ≡ Full → p.room < length (walked p c t old)
+        walk_stops e = walk_full (subst (λ (g : Grown). TakenAs p c t held v (spliced (i * row_size p.shape.letters) (row_in p c t held v new) table) table' new new' index' g) e d)
 
-        pub walk-goes : (more : ℕ) → r ≡ Held more → length table' ≡ length table → WalkTo p c t table₀ table' old new' index' more (i + 1)
-        walk-goes more e lt = walk_more (subst (λ (g : Grown). TakenAs p c t held v (spliced (i * row_size p.shape.letters) (row_in p c t held v new) table) table' new new' index' g) e d) lt
+        pub walk_goes : (more : ℕ) → r ≡ Held more → length table' ≡ length table → WalkTo p c t table₀ table' old new' index' more (i + 1)
+        walk_goes more e lt = walk_more (subst (λ (g : Grown). TakenAs p c t held v (spliced (i * row_size p.shape.letters) (row_in p c t held v new) table) table' new new' index' g) e d) lt
 
-    pub walk-all : held ≤ i → Walked p c t table₀ table old new held
+    pub walk_all : held ≤ i → Walked p c t table₀ table old new held
     unfolding table_of
-    walk-all h =
+    walk_all h =
         let e : kept_in p held new ≡ all =
-        sym (rest_end (made p c t).key (made p c t).step p.shape.letters p.room i (kept_in p held new) (rw length-values h)) ∙ so.listed in
-        let n : i ≡ length all = omega (arith, so.below, ap length e, length-values p.stride p.width held new) in
+        sym (rest_end (made p c t).key (made p c t).step p.shape.letters p.room i (kept_in p held new) (rw length_values h)) ∙ so.listed in
+        let n : i ≡ length all = omega (arith, so.below, ap length e, length_values p.stride p.width held new) in
         record {
           roomy = so.roomy;
           listed = e;

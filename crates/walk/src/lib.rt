@@ -1,4 +1,6 @@
 // State after state expanded, until there is no further state or they outnumber the room.
+#![tactic(auto)]
+
 ghost use Rattle.walk.specs.Walked.{WalkAsks, WalkedAs, GrowAsks, MadeAs};
 
 use expand::expand;

@@ -14,13 +14,13 @@ use Rattle.paper.specs.Builders.{nerode, reduced, Lent, brzozowski, blank, blank
 use Rattle.paper.specs.Figures.{chart_e, chart2, chart32}
 use Rattle.paper.proofs.Figures.{definitions}
 use Rattle.lists.proofs.Tests.{both_split}
-use Rattle.lists.proofs.ByPlace.{get_d_part}
+use Rattle.lists.proofs.ByPlace.{get_or_part}
 use Rattle.promises.specs.Faithful.{of_forward, EveryWord, Faithful, SameVector, SameAfterLetters, SameFuture}
 use Rattle.promises.specs.Demands.{Builder, ForwardBuilds, ForwardFaithful, BackwardBuilder, BackwardBuilds, OnceBuilt, RowsFaithful, Smallest}
 use Rattle.promises.proofs.Exact.{nerode_builds, reduced_builds, brzozowski_builds}
 use Rattle.promises.proofs.Forward.{nerode_faithful, reduced_faithful}
 use Rattle.promises.proofs.Backward.{brzozowski_faithful, brzozowski_smallest}
-use Rattle.promises.proofs.FirstWords.{reached-low}
+use Rattle.promises.proofs.FirstWords.{reached_low}
 use Rattle.promises.proofs.OneTable.{one_table}
 use Rattle.promises.proofs.Together.{own_sheet_accepted}
 use Rattle.wrong.specs.Wrong.{Builds, OfBuilt, OneFixedTable, WritesNothing, row_at, CopiesFirstRow, NoneOfFive, forward_call, ForwardShutsOut, ForwardContract, MergesOnce, backward_call, BackwardShutsOut, BackwardContract, SoundNotAll, CompleteNotNone}
@@ -29,7 +29,7 @@ use Rattle.wrong.specs.Wrong.{Builds, OfBuilt, OneFixedTable, WritesNothing, row
 
 -- a row's first byte is its state's grade
 grade_in_row : (c left : List ℕ) (s : ℕ) → get_or (row_at c left s) 0 0 ≡ grade_at left (letters c) s
-grade_in_row c left s = get_d_part (row_size (letters c)) s left 0 0 (omega arith) ∙ ap (λ (i : ℕ). get_or left i 0) (omega arith)
+grade_in_row c left s = get_or_part (row_size (letters c)) s left 0 0 (omega arith) ∙ ap (λ (i : ℕ). get_or left i 0) (omega arith)
 
 -- the word 0 is one of E's
 letter_word : Word (letters chart_e) (0 ∷ [])
@@ -53,28 +53,28 @@ module _ (p : Builds) (built-e : built p chart_e) (built-o : built p chart2)
     (grades-o : EveryWord chart2 (λ u. table_grade (left p chart2) (letters chart2) u ≡ grade_of chart2 u))
     (reached-e : state_of (left p chart_e) (letters chart_e) (0 ∷ []) < count p chart_e) (other : count p chart_e ≡ count p chart2 → ⊥)
   where
-    empty-e : table_grade (left p chart_e) 2 [] ≡ 0
+    empty_e : table_grade (left p chart_e) 2 [] ≡ 0
     unfolding definitions
-    empty-e = grades-e [] tt
+    empty_e = grades-e [] tt
 
-    letter-e : table_grade (left p chart_e) 2 (0 ∷ []) ≡ 1
+    letter_e : table_grade (left p chart_e) 2 (0 ∷ []) ≡ 1
     unfolding definitions
-    letter-e = grades-e (0 ∷ []) letter_word
+    letter_e = grades-e (0 ∷ []) letter_word
 
-    empty-o : table_grade (left p chart2) 2 [] ≡ 2
+    empty_o : table_grade (left p chart2) 2 [] ≡ 2
     unfolding definitions
-    empty-o = grades-o [] tt
+    empty_o = grades-o [] tt
 
     fixed : (rows : List ℕ) → ¬ OfBuilt p (OneFixedTable rows)
     fixed rows w =
         let same : left p chart_e ≡ left p chart2 = w chart_e 6 (blank 30) built-e ∙ sym (w chart2 6 (blank 30) built-o) in
-        let z : ◌≡◌ {A = ℕ} 0 2 = sym empty-e ∙ ap (λ (l : List ℕ). table_grade l 2 []) same ∙ empty-o in
+        let z : ◌≡◌ {A = ℕ} 0 2 = sym empty_e ∙ ap (λ (l : List ℕ). table_grade l 2 []) same ∙ empty_o in
         absurd (omega (arith, z))
 
     unwritten : ¬ OfBuilt p WritesNothing
     unfolding definitions
     unwritten w =
-        let z : ◌≡◌ {A = ℕ} 1 0 = sym letter-e ∙ ap (λ (l : List ℕ). table_grade l 2 (0 ∷ [])) (w chart_e 6 (blank 30) built-e) in
+        let z : ◌≡◌ {A = ℕ} 1 0 = sym letter_e ∙ ap (λ (l : List ℕ). table_grade l 2 (0 ∷ [])) (w chart_e 6 (blank 30) built-e) in
         absurd (omega (arith, z))
 
     copied : ¬ OfBuilt p CopiesFirstRow
@@ -83,13 +83,13 @@ module _ (p : Builds) (built-e : built p chart_e) (built-o : built p chart2)
         let s = state_of (left p chart_e) 2 (0 ∷ []) in
         let row : row_at chart_e (left p chart_e) s ≡ row_at chart_e (left p chart_e) 0 = w chart_e 6 (blank 30) built-e s reached-e in
         let z : ◌≡◌ {A = ℕ} 1 0 =
-        sym letter-e ∙ sym (grade_in_row chart_e (left p chart_e) s)
+        sym letter_e ∙ sym (grade_in_row chart_e (left p chart_e) s)
         ∙ ap (λ (l : List ℕ). get_or l 0 0) row
-        ∙ grade_in_row chart_e (left p chart_e) 0 ∙ empty-e in
+        ∙ grade_in_row chart_e (left p chart_e) 0 ∙ empty_e in
         absurd (omega (arith, z))
 
-    none-of-five : NoneOfFive p
-    none-of-five =
+    none_of_five : NoneOfFive p
+    none_of_five =
         record {
           refuses_all = λ w. w chart_e 6 (blank 30) built-e;
           one_fixed_table = fixed;
@@ -103,44 +103,44 @@ module _ (by : List ℕ → Construction) (alike : List ℕ → List ℕ → Lis
     (b-faithful : ForwardFaithful b by alike) (p-builds : ForwardBuilds p by) (p-faithful : ForwardFaithful p by alike) (c : List ℕ)
     (at : built (forward_call b) c)
   where
-    built-too : built (forward_call p) c
-    built-too = (p-builds c 6 (blank 30) (blank_vectors 6)).1 ((b-builds c 6 (blank 30) (blank_vectors 6)).0 at)
+    built_too : built (forward_call p) c
+    built_too = (p-builds c 6 (blank 30) (blank_vectors 6)).1 ((b-builds c 6 (blank 30) (blank_vectors 6)).0 at)
 
-    faithful-too : Faithful c (by c) (grade_of c) (alike c) (of_forward c (p c 6 (blank 30) (blank_vectors 6)))
-    faithful-too = p-faithful c 6 (blank 30) (blank_vectors 6) built-too
+    faithful_too : Faithful c (by c) (grade_of c) (alike c) (of_forward c (p c 6 (blank 30) (blank_vectors 6)))
+    faithful_too = p-faithful c 6 (blank 30) (blank_vectors 6) built_too
 
-    counted-too : count (forward_call p) c ≡ count (forward_call b) c
-    counted-too = (one_table c (by c) (grade_of c) (alike c) _ _ faithful-too (b-faithful c 6 (blank 30) (blank_vectors 6) at)).0
+    counted_too : count (forward_call p) c ≡ count (forward_call b) c
+    counted_too = (one_table c (by c) (grade_of c) (alike c) _ _ faithful_too (b-faithful c 6 (blank 30) (blank_vectors 6) at)).0
 
 -- so where the call's own counts for E and for the example differ, it is none of the five
 module _ (by : List ℕ → Construction) (alike : List ℕ → List ℕ → List ℕ → Type 0) (b : Builder) (b-builds : ForwardBuilds b by)
     (b-faithful : ForwardFaithful b by alike) (at-e : built (forward_call b) chart_e) (at-o : built (forward_call b) chart2)
     (other : count (forward_call b) chart_e ≡ count (forward_call b) chart2 → ⊥)
   where
-    shuts-out : ForwardShutsOut by alike
-    shuts-out p p-builds p-faithful =
-        let e = faithful-too by alike b p b-builds b-faithful p-builds p-faithful chart_e at-e in
-        let o = faithful-too by alike b p b-builds b-faithful p-builds p-faithful chart2 at-o in
-        none-of-five
+    shuts_out : ForwardShutsOut by alike
+    shuts_out p p-builds p-faithful =
+        let e = faithful_too by alike b p b-builds b-faithful p-builds p-faithful chart_e at-e in
+        let o = faithful_too by alike b p b-builds b-faithful p-builds p-faithful chart2 at-o in
+        none_of_five
         (forward_call p)
-        (built-too by alike b p b-builds b-faithful p-builds p-faithful chart_e at-e)
-        (built-too by alike b p b-builds b-faithful p-builds p-faithful chart2 at-o)
+        (built_too by alike b p b-builds b-faithful p-builds p-faithful chart_e at-e)
+        (built_too by alike b p b-builds b-faithful p-builds p-faithful chart2 at-o)
         e.grades
         o.grades
-        (reached-low chart_e (by chart_e) (grade_of chart_e) (alike chart_e) _ e (0 ∷ []) letter_word)
+        (reached_low chart_e (by chart_e) (grade_of chart_e) (alike chart_e) _ e (0 ∷ []) letter_word)
         (λ q.
         other
-        (sym (counted-too by alike b p b-builds b-faithful p-builds p-faithful chart_e at-e)
+        (sym (counted_too by alike b p b-builds b-faithful p-builds p-faithful chart_e at-e)
         ∙ q
-        ∙ counted-too by alike b p b-builds b-faithful p-builds p-faithful chart2 at-o))
+        ∙ counted_too by alike b p b-builds b-faithful p-builds p-faithful chart2 at-o))
 
 pub nerode_shuts_out : ForwardShutsOut nerode_by SameVector
 unfolding definitions
-nerode_shuts_out = shuts-out nerode_by SameVector nerode nerode_builds nerode_faithful refl refl (λ q. omega (arith, q))
+nerode_shuts_out = shuts_out nerode_by SameVector nerode nerode_builds nerode_faithful refl refl (λ q. omega (arith, q))
 
 pub reduced_shuts_out : ForwardShutsOut reduced_by SameAfterLetters
 unfolding definitions
-reduced_shuts_out = shuts-out reduced_by SameAfterLetters reduced reduced_builds reduced_faithful refl refl (λ q. omega (arith, q))
+reduced_shuts_out = shuts_out reduced_by SameAfterLetters reduced reduced_builds reduced_faithful refl refl (λ q. omega (arith, q))
 
 -- demand 2 holds of whatever meets the contract
 contract : (by : List ℕ → Construction) (alike : List ℕ → List ℕ → List ℕ → Type 0) (call : Builder) → ForwardBuilds call by →
@@ -194,38 +194,38 @@ lent = record { table = blank 30; reverse_table = blank_table 8; reverse_vectors
 -- a program whose tables are faithful and smallest counts at least the call's states for E, and at most those for the example
 module _ (p : BackwardBuilder) (builds : BackwardBuilds p) (faithful : OnceBuilt p RowsFaithful) (smallest : OnceBuilt p Smallest) where
   module _ (c : List ℕ) (at : built (backward_call brzozowski) c) where
-    rows-built : built (backward_call p) c
-    rows-built = (builds c 6 8 lent).1 ((brzozowski_builds c 6 8 lent).0 at)
+    rows_built : built (backward_call p) c
+    rows_built = (builds c 6 8 lent).1 ((brzozowski_builds c 6 8 lent).0 at)
 
-    rows-faithful : RowsFaithful c 8 (p c 6 8 lent)
-    rows-faithful = faithful c 6 8 lent rows-built
+    rows_faithful : RowsFaithful c 8 (p c 6 8 lent)
+    rows_faithful = faithful c 6 8 lent rows_built
 
     fewer : count (backward_call brzozowski) c ≤ count (backward_call p) c
     unfolding table_fits_chart
-    fewer = brzozowski_smallest c 6 8 lent at _ _ (k_of c) (both_split _ _ rows-faithful.fits).1 rows-faithful.grades
+    fewer = brzozowski_smallest c 6 8 lent at _ _ (k_of c) (both_split _ _ rows_faithful.fits).1 rows_faithful.grades
 
     more : count (backward_call p) c ≤ count (backward_call brzozowski) c
     unfolding table_fits_chart
     more =
         let f = brzozowski_faithful c 6 8 lent at in
-        smallest c 6 8 lent rows-built _ _ (k_of c) (both_split _ _ f.fits).1 f.grades
+        smallest c 6 8 lent rows_built _ _ (k_of c) (both_split _ _ f.fits).1 f.grades
 
-  rows-none-of-five : built (backward_call brzozowski) chart_e → built (backward_call brzozowski) chart2 →
+  rows_none_of_five : built (backward_call brzozowski) chart_e → built (backward_call brzozowski) chart2 →
       count (backward_call brzozowski) chart2 < count (backward_call brzozowski) chart_e → NoneOfFive (backward_call p)
-  rows-none-of-five at-e at-o less =
-      let e = rows-faithful chart_e at-e in
-      none-of-five
+  rows_none_of_five at-e at-o less =
+      let e = rows_faithful chart_e at-e in
+      none_of_five
       (backward_call p)
-      (rows-built chart_e at-e)
-      (rows-built chart2 at-o)
+      (rows_built chart_e at-e)
+      (rows_built chart2 at-o)
       e.grades
-      (rows-faithful chart2 at-o).grades
-      (reached-low chart_e _ (grade_of chart_e) (SameFuture chart_e) _ e (0 ∷ []) letter_word)
+      (rows_faithful chart2 at-o).grades
+      (reached_low chart_e _ (grade_of chart_e) (SameFuture chart_e) _ e (0 ∷ []) letter_word)
       (λ q. absurd (omega (arith, q, less, fewer chart_e at-e, more chart2 at-o)))
 
 pub brzozowski_shuts_out : BackwardShutsOut
 unfolding definitions
-brzozowski_shuts_out p builds faithful smallest = rows-none-of-five p builds faithful smallest refl refl (omega arith)
+brzozowski_shuts_out p builds faithful smallest = rows_none_of_five p builds faithful smallest refl refl (omega arith)
 
 pub brzozowski_contract : BackwardContract brzozowski
 brzozowski_contract p meets =

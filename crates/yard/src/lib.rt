@@ -1,4 +1,6 @@
-// For measuring: the chart check, the row product, the builders and the sheet check as calls that a program in Rust can time. Nothing here is promised.
+// For measuring: the chart check, the row product, the builders and the sheet check as calls that a program in Rust can time, by way of `yard_c`. Nothing here is promised.
+#![tactic(auto)]
+
 ghost use Rattle.std.specs.Prelude.{◌≡◌, true, ◌<◌, ◌≤◌, length};
 ghost use Rattle.cells.specs.Shaped.{Shaped};
 ghost use Rattle.vectors.specs.Products.{Grades};
@@ -6,8 +8,7 @@ ghost use Rattle.vectors.specs.Products.{Grades};
 use replies::{Built, BuiltBoth, Checked, Shape, Verdict};
 
 // The number of the refusal, or 0.
-#[unsafe(no_mangle)]
-pub extern "C" fn yard_check(chart: &[u8]) -> u8 {
+pub fn yard_check(chart: &[u8]) -> u8 {
     match chart::check(chart) {
         Checked::Fine(_) => 0,
         Checked::Refused(why) => replies::number(why),
@@ -43,14 +44,7 @@ fn multiply(chart: &[u8], shape: Shape, x: usize, v: &[u8], out: &mut [u8], turn
 }
 
 // The vector v times letter x's matrix, into out, so many times over. Answers 0 where the chart, the letter or the vector is not one.
-#[unsafe(no_mangle)]
-pub extern "C" fn yard_row_times(
-    chart: &[u8],
-    x: usize,
-    v: &[u8],
-    out: &mut [u8],
-    turns: usize,
-) -> usize {
+pub fn yard_row_times(chart: &[u8], x: usize, v: &[u8], out: &mut [u8], turns: usize) -> usize {
     let Checked::Fine(shape) = chart::check(chart) else {
         return 0;
     };
@@ -75,28 +69,15 @@ fn states(built: Built) -> usize {
     }
 }
 
-#[unsafe(no_mangle)]
-pub extern "C" fn yard_nerode(
-    chart: &[u8],
-    room: usize,
-    table: &mut [u8],
-    vectors: &mut [u8],
-) -> usize {
+pub fn yard_nerode(chart: &[u8], room: usize, table: &mut [u8], vectors: &mut [u8]) -> usize {
     states(forward::nerode(chart, room, table, vectors))
 }
 
-#[unsafe(no_mangle)]
-pub extern "C" fn yard_reduced(
-    chart: &[u8],
-    room: usize,
-    table: &mut [u8],
-    vectors: &mut [u8],
-) -> usize {
+pub fn yard_reduced(chart: &[u8], room: usize, table: &mut [u8], vectors: &mut [u8]) -> usize {
     states(forward::reduced(chart, room, table, vectors))
 }
 
-#[unsafe(no_mangle)]
-pub extern "C" fn yard_brzozowski(
+pub fn yard_brzozowski(
     chart: &[u8],
     room: usize,
     reverse_room: usize,
@@ -120,8 +101,7 @@ pub extern "C" fn yard_brzozowski(
 }
 
 // The number of the refusal, or 0.
-#[unsafe(no_mangle)]
-pub extern "C" fn yard_check_sheet(
+pub fn yard_check_sheet(
     chart: &[u8],
     rows: &[u8],
     count: usize,
