@@ -5,20 +5,20 @@ pub mod print;
 
 ghost use Rattle.std.specs.Prelude.{◌≡◌, ◌≤◌, length};
 ghost use Rattle.replies.specs.Replies.{built_said};
-ghost use Rattle.paper.specs.Builders.{blank, blank_table};
-ghost use Rattle.pages.specs.Texts.{chart_most};
+ghost use Rattle.paper.specs.Builders.{blank_table};
 ghost use Rattle.pages.specs.Programs.{program_room, program};
 ghost use Rattle.std.specs.Counts.{IsPrefixLen};
 ghost use Rattle.shown.specs.Answered.{Answered, answer_most};
 ghost use Rattle.answers.specs.Answers.{makes};
 ghost use Rattle.made.specs.Made.{Made};
 
+use lists::blank;
 use made::{build_brz, build_nerode, build_reduced};
-use replies::{Built, Written};
+use replies::Refusal;
 use shown::{finish, refuse};
 
 // The three programs.
-#[derive(Clone, Copy)]
+#[derive(Clone, Copy, Debug, PartialEq, Eq)]
 pub enum Program {
     Nerode,
     Reduced,
@@ -26,20 +26,13 @@ pub enum Program {
 }
 
 // Room for every chart.
-fn chart_buffer() -> [u8; 9780]
-    ensures { result ≡ blank chart_most }
-{
-    [0; 9780]
-}
+const CHART_BYTES: usize = 9780;
 
 // Rows for 128 states of 16 letters.
-fn table_buffer() -> [u8; 4224]
-    ensures { result ≡ blank_table program_room }
-{
-    [0; 4224]
-}
+const TABLE_BYTES: usize = 4224;
 
-fn build(which: Program, chart: &[u8], table: &mut [u8]) -> Built
+// There are three programs, and each has its call.
+fn build(which: Program, chart: &[u8], table: &mut [u8]) -> Result<usize, Refusal>
     requires { table.old ≡ blank_table program_room }
     ensures { Made (makes which chart.now) chart.now table.new (built_said result) }
 {
@@ -55,7 +48,7 @@ fn answer_chart(which: Program, chart: &[u8], out: &mut [u8]) -> usize
     requires { answer_most ≤ length out.old }
     ensures { Answered (makes which chart.now) out.old out.new result }
 {
-    let mut table = table_buffer();
+    let mut table = blank::<TABLE_BYTES>();
     let built = build(which, chart, &mut table);
     finish(chart, &table, built, out)
 }
@@ -67,9 +60,9 @@ pub fn answer(which: Program, text: &[u8], out: &mut [u8]) -> usize
     ensures prefix_len { IsPrefixLen result out.new }
 {
     // the whole buffer is the chart, with zeros behind it
-    let mut chart = chart_buffer();
+    let mut chart = blank::<CHART_BYTES>();
     match reading::read_chart(text, &mut chart) {
-        Written::Refused(why) => refuse(why, out),
-        Written::Bytes(_) => answer_chart(which, &chart, out),
+        Ok(_) => answer_chart(which, &chart, out),
+        Err(why) => refuse(why, out),
     }
 }

@@ -1,20 +1,21 @@
 -- What is refused before anything is built. Assumes nothing.
-use mathlib.Core.Path.{◌≡◌, sym, ap, ◌∙◌}
+use mathlib.Core.Path.{◌≡◌, ap, ◌∙◌}
 use mathlib.Core.Bool.{Bool, true, false}
 use mathlib.Core.List.{List, []}
 use Prim.Native.Nat.{ℕ}
 use lib.ListN.{length}
 use Rattle.paper.specs.Lists.{both}
-use Rattle.paper.specs.Check.{chart_fits, check_reply}
-use Rattle.paper.specs.Reply.{Reply}
-use Rattle.replies.specs.Replies.{said, checked_said}
-use Rattle.paper.specs.Builders.{room_fits, state_most, reverse_most, Lent, backward_room, brzozowski}
-use Rattle.replies.specs.declared.Shape.{Shape}
+use Rattle.paper.specs.Chart.{n_of, letters}
+use Rattle.paper.specs.Check.{chart_fits}
+use Rattle.replies.specs.Replies.{said}
+use Rattle.paper.specs.Builders.{room_fits, state_most, reverse_most, Lent, Backward, backward_room, brzozowski}
 use Rattle.replies.specs.declared.Refusal.{Refusal}
-use Rattle.replies.specs.declared.Checked.{Checked}
-use Rattle.cells.specs.Shaped.{Shaped}
-use Rattle.chart.proofs.Checked.{fits_refused}
+use Rattle.std.specs.Prelude.{Ok, Err}
+use Rattle.chart.specs.Opened.{Opened}
 use Rattle.row_build.specs.Lent.{lent}
+
+pub opened_fits : (c v : List ℕ) → Opened c (Ok v) → chart_fits v ≡ true
+opened_fits c v e = rw e.1 e.0
 
 module _ (c : List ℕ) (room reverse : ℕ) (l : Lent) where
   -- the rooms do not fit
@@ -23,13 +24,18 @@ module _ (c : List ℕ) (room reverse : ℕ) (l : Lent) where
   both_room f e = simp (f, e)
 
   -- a refused chart
-  pub both_refused : {r : Checked} {why : Refusal} → checked_said r ≡ check_reply c → r ≡ Checked.Refused why → record { reply = said why; left = l } ≡ brzozowski c room reverse l
+  pub both_refused : (why : Refusal) → Opened c (Err why) → record { reply = said why; left = l } ≡ brzozowski c room reverse l
   unfolding brzozowski
-  both_refused e q = rw (fits_refused c e q) (ap (λ (x : Reply). record { reply = x; left = l }) (ap checked_said (sym q) ∙ e))
+  both_refused why e = rw (e.0, ← e.1)
+
+  -- a chart that was opened
+  module _ (v : List ℕ) (e : Opened c (Ok v)) where
+    pub both_opened : {left : Backward} → left ≡ brzozowski v room reverse l → left ≡ brzozowski c room reverse l
+    both_opened p = p ∙ ap (λ (w : List ℕ). brzozowski w room reverse l) e.1
 
 -- the rooms as the code tests them
-pub rooms_read : {c : List ℕ} {s : Shape} (room reverse : ℕ) (table rt rv rows : List ℕ) {b : Bool} → Shaped c s →
-    both (room_fits state_most s.letters reverse room (length table) (length rows)) (room_fits reverse_most s.letters s.n reverse (length rt) (length rv)) ≡ b →
+pub rooms_read : (c : List ℕ) (room reverse : ℕ) (table rt rv rows : List ℕ) {b : Bool} →
+    both (room_fits state_most (letters c) reverse room (length table) (length rows)) (room_fits reverse_most (letters c) (n_of c) reverse (length rt) (length rv)) ≡ b →
     backward_room c room reverse (lent table rt rv rows) ≡ b
 unfolding backward_room
-rooms_read room reverse table rt rv rows h e = rw (← h.letters_is, ← h.n_is) e
+rooms_read c room reverse table rt rv rows e = e

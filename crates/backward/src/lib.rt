@@ -1,22 +1,23 @@
 // The Brzozowski table of a chart: the reverse table first, then the rows over it.
 #![tactic(auto)]
 
-ghost use Rattle.std.specs.Prelude.{◌≡◌, true, ◌≤◌};
+ghost use Rattle.std.specs.Prelude.{◌≡◌, true};
 ghost use Rattle.replies.specs.Replies.{both_said};
 ghost use Rattle.paper.specs.Builders.{brzozowski, state_most, reverse_most, room_fits};
 ghost use Rattle.row_build.specs.Lent.{lent};
+ghost use Rattle.paper.specs.Chart.{n_of, letters};
 ghost use Rattle.paper.specs.Check.{chart_fits};
 ghost use Rattle.paper.specs.Lists.{both};
-ghost use Rattle.cells.specs.Shaped.{Shaped};
 
-use chart::check;
-use replies::{BuiltBoth, Checked, Refusal, Shape};
+use cells::Chart;
+use chart::open;
+use replies::{Both, Refusal};
 use rooms::room_fits;
 use row_build::build_rows;
 
 // Whether both rooms of the Brzozowski table are in range, and rows and places for them are lent.
 pub fn rooms_fit(
-    shape: Shape,
+    chart: &Chart,
     room: usize,
     reverse: usize,
     table: usize,
@@ -24,38 +25,34 @@ pub fn rooms_fit(
     reverse_table: usize,
     reverse_vectors: usize,
 ) -> bool
-    requires { (shape.letters ≤ 16) × (shape.n ≤ 24) }
-    ensures { result ≡ both (room_fits state_most shape.letters reverse room table rows) (room_fits reverse_most shape.letters shape.n reverse reverse_table reverse_vectors) }
+    ensures { result ≡ both (room_fits state_most (letters chart.now) reverse room table rows) (room_fits reverse_most (letters chart.now) (n_of chart.now) reverse reverse_table reverse_vectors) }
 {
-    if !room_fits(
+    let letters = chart.letters();
+    room_fits(
         128,
-        shape.letters,
-        shape.n,
+        letters,
+        chart.n(),
         reverse,
         reverse_table,
         reverse_vectors,
-    ) {
-        return false;
-    }
-    room_fits(4096, shape.letters, reverse, room, table, rows)
+    ) && room_fits(4096, letters, reverse, room, table, rows)
 }
 
 // The Brzozowski table of a checked chart, the rooms tested first.
 pub fn build_both(
-    chart: &[u8],
-    shape: Shape,
+    chart: &Chart,
     room: usize,
     reverse: usize,
     table: &mut [u8],
     reverse_table: &mut [u8],
     reverse_vectors: &mut [u8],
     rows: &mut [u8],
-) -> BuiltBoth
-    requires { (chart_fits chart.now ≡ true) × Shaped chart.now shape }
+) -> Result<Both, Refusal>
+    requires { chart_fits chart.now ≡ true }
     ensures { record { reply = both_said result; left = lent table.new reverse_table.new reverse_vectors.new rows.new } ≡ brzozowski chart.now room reverse (lent table.old reverse_table.old reverse_vectors.old rows.old) }
 {
     if !rooms_fit(
-        shape,
+        chart,
         room,
         reverse,
         table.len(),
@@ -63,11 +60,10 @@ pub fn build_both(
         reverse_table.len(),
         reverse_vectors.len(),
     ) {
-        return BuiltBoth::Refused(Refusal::Room);
+        return Err(Refusal::Room);
     }
     build_rows(
         chart,
-        shape,
         room,
         reverse,
         table,
@@ -86,20 +82,16 @@ pub fn brzozowski(
     reverse_table: &mut [u8],
     reverse_vectors: &mut [u8],
     rows: &mut [u8],
-) -> BuiltBoth
+) -> Result<Both, Refusal>
     ensures { record { reply = both_said result; left = lent table.new reverse_table.new reverse_vectors.new rows.new } ≡ brzozowski chart.now room reverse_room (lent table.old reverse_table.old reverse_vectors.old rows.old) }
 {
-    match check(chart) {
-        Checked::Refused(why) => BuiltBoth::Refused(why),
-        Checked::Fine(shape) => build_both(
-            chart,
-            shape,
-            room,
-            reverse_room,
-            table,
-            reverse_table,
-            reverse_vectors,
-            rows,
-        ),
-    }
+    build_both(
+        &open(chart)?,
+        room,
+        reverse_room,
+        table,
+        reverse_table,
+        reverse_vectors,
+        rows,
+    )
 }

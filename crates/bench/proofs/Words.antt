@@ -1,4 +1,5 @@
 -- Reading a word letter by letter ends where walking it does, wherever grading the word refuses nothing. Assumes nothing.
+use Rattle.std.specs.Prelude.{Result}
 use mathlib.Core.Path.{◌≡◌, refl, sym, ap, ◌∙◌}
 use mathlib.Core.Bool.{true}
 use mathlib.Core.List.{List, [], ◌∷◌}
@@ -10,10 +11,10 @@ use lib.Seq.{drop-cons, drop-length}
 use lib.Dec.{leb}
 use borrow.Author.Tests.{leb-true, ltb-true}
 use Rattle.paper.specs.Reply.{Reply}
+use Rattle.replies.specs.declared.Refusal.{Refusal}
 use Rattle.replies.specs.Replies.{graded_said}
 use Rattle.paper.specs.Words.{after, Word}
 use Rattle.paper.specs.Tables.{grade_at, next_at, grade_top, row_fits, size_fits, table_fits, letter_fits, bad_letter, next_by, state_of, table_grade, state_after, reader_takes, reader_state, grade_reply, word_reply}
-use Rattle.replies.specs.declared.Graded.{Graded}
 use Rattle.replies.proofs.Said.{graded_one}
 use Rattle.lists.proofs.Tests.{unless_passed, all_at, least_all}
 use Rattle.rows.proofs.Rows.{size_parts, step_next, grade_is}
@@ -83,5 +84,5 @@ module _ (rows : List ℕ) (count m : ℕ) (word : List ℕ) where
       ap (grade_reply rows count m) way.0 ∙ sym (state_grade rows count m p.0 _ way.1) ∙ simp (p.0, p.1)
 
   -- so `read_word` answers what `grade_word` answers
-  pub same_answer : (word_reply rows count m word).0 ≡ 0 → (g h : Graded) → graded_said g ≡ grade_reply rows count m (reader_state rows count m word) → graded_said h ≡ word_reply rows count m word → g ≡ h
+  pub same_answer : (word_reply rows count m word).0 ≡ 0 → (g h : Result ℕ Refusal) → graded_said g ≡ grade_reply rows count m (reader_state rows count m word) → graded_said h ≡ word_reply rows count m word → g ≡ h
   same_answer e g h p q = graded_one g h (p ∙ read_as_graded e ∙ sym q)

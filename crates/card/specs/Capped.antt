@@ -1,10 +1,7 @@
--- What the cap's inner functions ask of their callers.
+-- What the cap asks of its callers.
 use Rattle.std.specs.Prelude.{◌≡◌, true, List, ℕ}
-use Rattle.replies.specs.declared.Shape.{Shape}
 use Rattle.paper.specs.Tables.{table_fits_chart}
-use Rattle.cells.specs.Shaped.{Shaped}
 
--- a table beside a chart of this shape, neither of them refused
-pub record Beside (c : List ℕ) (s : Shape) (rows : List ℕ) (count m : ℕ) : Type 0 where
-  pub shaped : Shaped c s
+-- a table whose letters and grades are the chart's, and that can be walked
+pub record Beside (c rows : List ℕ) (count m : ℕ) : Type 0 where
   pub fits : table_fits_chart c rows count m ≡ true

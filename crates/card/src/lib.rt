@@ -8,20 +8,16 @@ ghost use Rattle.replies.specs.Replies.{graded_said};
 ghost use Rattle.paper.specs.Tables.{cap_reply};
 
 use crate::inner::{cap_of, table_fits_chart};
-use chart::check;
-use replies::{Checked, Graded, Refusal};
+use chart::open;
+use replies::Refusal;
 
 // The cap of a table.
-pub fn cap(chart: &[u8], rows: &[u8], count: usize, m: usize) -> Graded
+pub fn cap(chart: &[u8], rows: &[u8], count: usize, m: usize) -> Result<u8, Refusal>
     ensures { graded_said result ≡ cap_reply chart.now rows.now count m }
 {
-    match check(chart) {
-        Checked::Refused(why) => Graded::Refused(why),
-        Checked::Fine(shape) => {
-            if !table_fits_chart(chart, shape, rows, count, m) {
-                return Graded::Refused(Refusal::Table);
-            }
-            Graded::Grade(cap_of(chart, shape, rows, count, m))
-        }
+    let chart = open(chart)?;
+    if !table_fits_chart(&chart, rows, count, m) {
+        return Err(Refusal::Table);
     }
+    Ok(cap_of(&chart, rows, count, m))
 }

@@ -6,34 +6,29 @@ ghost use Rattle.std.specs.Prelude.{◌≡◌, IfOk, length};
 ghost use Rattle.std.specs.Counts.{IsPrefixLen};
 
 use input::read_full;
-use replies::{Refusal, Verdict};
+use replies::Refusal;
+use std::fmt::Display;
 use std::io::{self, Read};
 
-fn wide(byte: u8) -> usize {
-    byte as usize
-}
-
-// Room for the largest table, 4,096 states of 16 letters, and some bytes more. Charts, sheets and words are shorter.
+// Room for the largest table, 4,096 states of 16 letters, and some bytes more. Charts, sheets and words are shorter. Its
+// length is all that is said, so that the zeros are not written out in proofs.
 pub fn buffer() -> [u8; 140000]
     ensures { 140000 ≡ length result }
 {
     [0; 140000]
 }
 
-fn number_in(bytes: &[u8; 8]) -> usize {
-    usize::from_be_bytes(*bytes)
-}
-
-// The next number, or 0 where the input has ended.
+// The next number, or 0 where the input has ended: stored cases are whole, and their answers are stored too.
 pub fn number<R: Read>(input: &mut R) -> io::Result<usize> {
     let mut bytes = [0u8; 8];
     if read_full(input, &mut bytes)? < 8 {
         return Ok(0);
     }
-    Ok(number_in(&bytes))
+    Ok(usize::from_be_bytes(bytes))
 }
 
-// Reads the next part into the front of a buffer, which must hold it, and answers how many bytes it has.
+// Reads the next part into the front of a buffer, which must hold it, and answers how many bytes it has: 0 where it does not, as where the
+// input has ended. No stored part is so long.
 pub fn part<R: Read>(input: &mut R, buffer: &mut [u8]) -> io::Result<usize>
     ensures prefix_len { IfOk result (λ size. IsPrefixLen size buffer.new) }
     ensures kept_length { length buffer.new ≡ length buffer.old }
@@ -45,57 +40,40 @@ pub fn part<R: Read>(input: &mut R, buffer: &mut [u8]) -> io::Result<usize>
     read_full(input, &mut buffer[..size])
 }
 
-// A value after another.
-pub fn print_value(rt: &impl Print, value: usize) -> io::Result<()> {
-    print!(rt; " {value}")
-}
-
-// Values, one for each byte.
-pub fn print_bytes(rt: &impl Print, bytes: &[u8]) -> io::Result<()> {
-    for byte in bytes {
-        print_value(rt, wide(*byte))?;
+// Answers each of the stored cases, whose number comes first.
+pub fn answer_each<R: Read, F: FnMut(&mut R) -> io::Result<()>>(
+    input: &mut R,
+    mut answer_next: F,
+) -> io::Result<()>
+    requires { F.IsAlwaysCallable answer_next }
+{
+    for _ in 0..number(input)? {
+        answer_next(input)?;
     }
     Ok(())
 }
 
-// No refusal: the number 0. Its values and the line's end come after.
-pub fn print_success(rt: &impl Print) -> io::Result<()> {
-    print!(rt; "0")
-}
-
-pub fn end_line(rt: &impl Print) -> io::Result<()> {
+// A line for an answer that refuses nothing: the number 0, and its values.
+pub fn print_values<T: Display>(rt: &impl Print, values: &[T]) -> io::Result<()> {
+    print!(rt; "0")?;
+    for value in values {
+        print!(rt; " {value}")?;
+    }
     println!(rt;)
 }
 
-fn print_values(rt: &impl Print, why: Refusal) -> io::Result<()> {
-    match why {
-        Refusal::Law { law, a, b, c } => {
-            print_value(rt, law)?;
-            print_value(rt, a)?;
-            print_value(rt, b)?;
-            print_value(rt, c)
-        }
-        Refusal::Letter { at } => print_value(rt, at),
-        Refusal::Line { line } => print_value(rt, line),
-        Refusal::Next { line, letter } => {
-            print_value(rt, line)?;
-            print_value(rt, letter)
-        }
-        Refusal::Text { line } => print_value(rt, line),
-        _ => Ok(()),
+// A line for an answer: that of its values, or the refusal's number and values.
+pub fn print_answer<T: Display + Copy, const N: usize>(
+    rt: &impl Print,
+    answer: Result<[T; N], Refusal>,
+) -> io::Result<()> {
+    match answer {
+        Ok(values) => print_values(rt, &values),
+        Err(why) => println!(rt; "{why}"),
     }
 }
 
-pub fn print_refusal(rt: &impl Print, why: Refusal) -> io::Result<()> {
-    rt.print(replies::number(why))?;
-    print_values(rt, why)
-}
-
-// A whole line for a table check or a sheet check.
-pub fn print_verdict(rt: &impl Print, verdict: Verdict) -> io::Result<()> {
-    match verdict {
-        Verdict::Accepted => print_success(rt)?,
-        Verdict::Refused(why) => print_refusal(rt, why)?,
-    }
-    end_line(rt)
+// The line of a table check or a sheet check, which have no values.
+pub fn print_verdict(rt: &impl Print, verdict: Result<(), Refusal>) -> io::Result<()> {
+    print_answer(rt, verdict.map(|()| [0u8; 0]))
 }

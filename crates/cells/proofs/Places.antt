@@ -1,13 +1,12 @@
 -- Where the grades of a checked chart stand: each within the chart's bytes, and below k. Assumes nothing.
-use mathlib.Core.Path.{◌≡◌, ◌∙◌}
+use mathlib.Core.Path.{◌≡◌, ◌∙◌, subst}
 use mathlib.Core.List.{List}
 use Prim.Native.Nat.{ℕ, ◌+◌, ◌*◌, ◌≤◌, ◌<◌}
-use native.Mathlib.Nat.{le-mul_of_pos_right}
 use native.Mathlib.Omega.{arith}
 use lib.Arith.{digits_lt}
 use lib.ListN.{length, get_or}
 use Rattle.replies.specs.declared.Shape.{Shape}
-use Rattle.paper.specs.Chart.{head_size, letters, join, prod, entry}
+use Rattle.paper.specs.Chart.{head_size, k_of, n_of, letters, join, prod, entry}
 use Rattle.cells.specs.Shaped.{Shaped, Read}
 
 -- `value` stands at `at`: within the chart, and a grade below k
@@ -15,10 +14,6 @@ pub record Stands (c : List ℕ) (k at value : ℕ) : Type 0 where
   pub within : at < length c
   pub is : get_or c at 0 ≡ value
   pub low : get_or c at 0 < k
-
--- a byte read there
-pub read : {c : List ℕ} {k at value r : ℕ} → Stands c k at value → r ≡ get_or c at 0 → Read value k r
-read s e = record { is = e ∙ s.is; low = rw e s.low }
 
 -- where parts of the chart begin: behind the head, and ending within the chart
 record Lies (s : Shape) (from size : ℕ) : Type 0 where
@@ -53,6 +48,25 @@ module _ {c : List ℕ} {s : Shape} (h : Shaped c s) where
   unfolding entry
   entry_stands x p q = stands matrix_lies (digits_lt (digits_lt x p) q) (rw (h.matrix_is, h.n_is))
 
-  -- the number of a matrix row is small
-  pub row_low : {x p : ℕ} → x < s.letters → p < s.n → x * s.n + p < length c
-  row_low {x} {p} hx hp = omega (arith, matrix_lies.ends, digits_lt hx hp, le-mul_of_pos_right (s.letters * s.n) h.sizes.n_low)
+-- ---- as contracts say it, by the chart's own numbers
+
+-- what is true of a chart's bytes is true of what contracts see of it
+pub at_view : {c v : List ℕ} {s : Shape} → c ≡ v → Shaped c s → Shaped v s
+at_view {s = s} e h = subst (λ v. Shaped v s) e h
+
+-- a byte read where a grade stands
+read : {c : List ℕ} {s : Shape} {at value r : ℕ} → Shaped c s → Stands c s.k at value → r ≡ get_or c at 0 → Read value (k_of c) r
+read h t e = record { is = e ∙ t.is; low = rw (e, ← h.k_is) t.low }
+
+module _ {c : List ℕ} {s : Shape} (h : Shaped c s) where
+  pub join_read : {a b r : ℕ} → a < k_of c → b < k_of c → r ≡ get_or c (s.join + (a * s.k + b)) 0 → Read (join c a b) (k_of c) r
+  join_read p q e = read h (join_stands h (rw h.k_is p) (rw h.k_is q)) e
+
+  pub prod_read : {a b r : ℕ} → a < k_of c → b < k_of c → r ≡ get_or c (s.prod + (a * s.k + b)) 0 → Read (prod c a b) (k_of c) r
+  prod_read p q e = read h (prod_stands h (rw h.k_is p) (rw h.k_is q)) e
+
+  pub entry_within : {x p q : ℕ} → x < letters c → p < n_of c → q < n_of c → s.matrix + ((x * s.n + p) * s.n + q) < length c
+  entry_within x p q = (entry_stands h (rw h.letters_is x) (rw h.n_is p) (rw h.n_is q)).within
+
+  pub entry_read : {x p q r : ℕ} → x < letters c → p < n_of c → q < n_of c → r ≡ get_or c (s.matrix + ((x * s.n + p) * s.n + q)) 0 → Read (entry c x p q) (k_of c) r
+  entry_read x p q e = read h (entry_stands h (rw h.letters_is x) (rw h.n_is p) (rw h.n_is q)) e

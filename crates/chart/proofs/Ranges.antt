@@ -1,16 +1,18 @@
 -- The sizes of a chart and its layout: ranges as facts, and bounds on the products. Assumes nothing.
-use mathlib.Core.Path.{◌≡◌, refl, sym}
+use mathlib.Core.Path.{◌≡◌, sym}
 use mathlib.Core.Bool.{Bool, true, false}
 use mathlib.Core.List.{List}
 use Prim.Native.Nat.{ℕ, ◌+◌, ◌-◌, ◌*◌, ◌≤◌, ◌<◌}
 use native.Mathlib.Nat.{mul-le-mul}
 use native.Mathlib.Omega.{arith}
-use lib.ListN.{get_or}
-use borrow.Author.Tests.{leb-true, ltb-true, le-leb, lt-ltb, le-ltb}
-use Rattle.paper.specs.Lists.{all_below}
+use lib.ListN.{length, get_or, take, drop, length-take, length-drop}
+use lib.Seq.{length-take-le, get_or-take, get_or-drop}
+use Rattle.std.specs.List.{AllWithin, HoldsAt}
+use Rattle.std.specs.Bool.{MatchBool}
+use borrow.Author.Tests.{leb-true, ltb-true, lt-ltb, le-ltb}
 use Rattle.paper.specs.Chart.{head_size, k_of, chart_size}
 use Rattle.paper.specs.Check.{sizes_fit, grade_fits, grades_fit}
-use Rattle.lists.proofs.Tests.{both_split, both_true, all_fails, all_more}
+use Rattle.lists.proofs.Tests.{both_split, all_by, all_fails}
 use Rattle.algebra.specs.Sizes.{Sizes}
 
 pub sizes_are : (k e n m : ℕ) → sizes_fit k e n m ≡ true → Sizes k e n m
@@ -32,27 +34,6 @@ sizes_are k e n m h =
       m_high = leb-true _ _ ms.1;
     }
 
-pub sizes_pass : {k e n m : ℕ} → Sizes k e n m → true ≡ sizes_fit k e n m
-unfolding sizes_fit
-sizes_pass h =
-    simp (
-      le-leb _ _ h.k_low,
-      le-leb _ _ h.k_high,
-      lt-ltb _ _ h.e_low,
-      le-leb _ _ h.n_low,
-      le-leb _ _ h.n_high,
-      le-leb _ _ h.m_low,
-      le-leb _ _ h.m_high,
-      both_true,
-    )
-
-pub sizes_fail : (k e n m : ℕ) → (Sizes k e n m → ⊥) → false ≡ sizes_fit k e n m
-sizes_fail k e n m not = go (sizes_fit k e n m) refl
-  where
-    go : (t : Bool) → sizes_fit k e n m ≡ t → false ≡ t
-    go true q = absurd (not (sizes_are k e n m q))
-    go false q = refl
-
 -- the products of sizes in range are small
 pub record Small (k n m : ℕ) : Type 0 where
   pub table : k * k ≤ 256
@@ -67,18 +48,19 @@ small h =
       matrices = mul-le-mul (mul-le-mul h.m_high h.n_high) h.n_high;
     }
 
--- the bytes behind the head, read one after the other
-module _ (c : List ℕ) (i : ℕ) where
-  module _ {k : ℕ} (ek : k ≡ k_of c) where
-    pub grades_fail : i < chart_size c - head_size → k ≤ get_or c (head_size + i) 0 → false ≡ grades_fit c
-    unfolding grade_fits grades_fit
-    grades_fail low h =
-        sym (all_fails (grade_fits c) (chart_size c - head_size) i low (le-ltb (get_or c (head_size + i) 0) (k_of c) (omega arith)))
+-- the bytes behind the head, as `all` tells of them
+module _ (c : List ℕ) (n : ℕ) where
+  behind : (i : ℕ) → i < n → get_or (take n (drop head_size c)) i 0 ≡ get_or c (head_size + i) 0
+  behind i l = rw (get_or-take, get_or-drop)
 
-    pub grades_more : all_below i (grade_fits c) ≡ true → get_or c (head_size + i) 0 < k → all_below (i + 1) (grade_fits c) ≡ true
-    unfolding grade_fits
-    grades_more e h = all_more (grade_fits c) i e (lt-ltb (get_or c (head_size + i) 0) (k_of c) (omega arith))
-
-  pub grades_done : all_below i (grade_fits c) ≡ true → i ≡ chart_size c - head_size → true ≡ grades_fit c
-  unfolding grades_fit
-  grades_done e done = rw (← done) (sym e)
+  pub grades_by : {k : ℕ} (r : Bool) → k ≡ k_of c → n ≡ chart_size c - head_size → n + head_size ≤ length c →
+      MatchBool r (AllWithin (λ x. x < k) (take n (drop head_size c)) 0 (length (take n (drop head_size c))))
+      ((i : ℕ) × (i < length (take n (drop head_size c))) × HoldsAt (λ x. k ≤ x) (take n (drop head_size c)) i) →
+      r ≡ grades_fit c
+  unfolding grades_fit grade_fits
+  grades_by true ek en h all =
+      sym (all_by (grade_fits c) (chart_size c - head_size)
+      (λ i l. lt-ltb _ _ (omega (arith, all i 0 (omega arith) (simp (length-take, length-drop) (omega arith)), behind i (omega arith)))))
+  grades_by false ek en h some =
+      let l : some.0 < n = omega (arith, length-take-le n (drop head_size c) (simp length-drop (omega arith)), some.1) in
+      sym (all_fails (grade_fits c) (chart_size c - head_size) some.0 (omega arith) (le-ltb _ _ (omega (arith, some.2 0, behind some.0 l))))

@@ -13,28 +13,7 @@ pub(crate) const HEAD: usize = 4;
 pub fn sizes_fit(k: usize, e: usize, n: usize, m: usize) -> bool
     ensures { result ≡ sizes_fit k e n m }
 {
-    if k < 2 {
-        return false;
-    }
-    if 16 < k {
-        return false;
-    }
-    if k <= e {
-        return false;
-    }
-    if n < 1 {
-        return false;
-    }
-    if 24 < n {
-        return false;
-    }
-    if m < 1 {
-        return false;
-    }
-    if 16 < m {
-        return false;
-    }
-    true
+    (2..=16).contains(&k) && e < k && (1..=24).contains(&n) && (1..=16).contains(&m)
 }
 
 // The shape of every chart with this head.
@@ -47,16 +26,16 @@ pub(crate) fn laid_out(k: usize, e: usize, n: usize, m: usize) -> Shape
     let end = start + n;
     let matrix = end + n;
     Shape {
-        k: k,
-        e: e,
-        n: n,
-        m: m,
+        k,
+        e,
+        n,
+        m,
         letters: m,
         join: HEAD,
-        prod: prod,
-        start: start,
-        end: end,
-        matrix: matrix,
+        prod,
+        start,
+        end,
+        matrix,
         size: matrix + m * n * n,
     }
 }
@@ -66,13 +45,5 @@ pub(crate) fn grades_fit(chart: &[u8], k: u8, size: usize) -> bool
     requires { (k ≡ k_of chart.now) × (size ≡ chart_size chart.now) × (size ≤ length chart.now) }
     ensures { result ≡ grades_fit chart.now }
 {
-    let count = size - HEAD;
-    let mut i = 0;
-    while i < count {
-        if k <= chart[HEAD + i] {
-            return false;
-        }
-        i += 1;
-    }
-    true
+    chart[HEAD..size].iter().all(|grade| *grade < k)
 }

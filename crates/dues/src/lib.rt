@@ -5,7 +5,7 @@ ghost use Rattle.std.specs.Prelude.{◌≡◌, ◌≤◌};
 ghost use Rattle.dues.specs.Dues.{Few, Ruled, Stepping, behind_line};
 
 // The sizes that decide how many lines a chart has, and how long they are.
-#[derive(Clone, Copy)]
+#[derive(Clone, Copy, Debug, PartialEq, Eq)]
 pub struct Counts {
     pub k: usize,
     pub n: usize,
@@ -13,7 +13,7 @@ pub struct Counts {
 }
 
 // What a kind of frame asks for: its payload's length, how many lines of it there are, and the kind due after them.
-#[derive(Clone, Copy)]
+#[derive(Clone, Copy, Debug, PartialEq, Eq)]
 pub struct Rule {
     pub width: usize,
     pub lines: usize,
@@ -22,7 +22,7 @@ pub struct Rule {
 
 // Where reading stands: the kind due and how many lines of it are left; the line, from 1, and where it begins in the text; where its
 // bytes go in the chart.
-#[derive(Clone, Copy)]
+#[derive(Clone, Copy, Debug, PartialEq, Eq)]
 pub struct Cursor {
     pub kind: usize,
     pub left: usize,
@@ -31,37 +31,23 @@ pub struct Cursor {
     pub at: usize,
 }
 
-// The kind decides how long the payload is, how many lines there are, and which kind is due next. Behind 06 nothing is due.
+// The kind decides how long the payload is, how many lines there are, and which kind is due next. Behind 06 nothing is due. Document 01 names
+// the form: a match on the kind's number, with ranges.
 pub fn rule_of(kind: usize, counts: Counts) -> Rule
     requires { (1 ≤ kind) × (kind ≤ 7) × Few counts }
     ensures { Ruled counts kind result }
 {
-    match kind {
-        1 => Rule {
-            width: 4,
-            lines: 1,
-            next: 2,
-        },
-        2..=3 => Rule {
-            width: counts.k,
-            lines: counts.k,
-            next: kind + 1,
-        },
-        4..=5 => Rule {
-            width: counts.n,
-            lines: 1,
-            next: kind + 1,
-        },
-        6 => Rule {
-            width: counts.n,
-            lines: counts.m * counts.n,
-            next: 7,
-        },
-        _ => Rule {
-            width: counts.n,
-            lines: 0,
-            next: 8,
-        },
+    let (width, lines) = match kind {
+        1 => (4, 1),
+        2..=3 => (counts.k, counts.k),
+        4..=5 => (counts.n, 1),
+        6 => (counts.n, counts.m * counts.n),
+        _ => (counts.n, 0),
+    };
+    Rule {
+        width,
+        lines,
+        next: kind + 1,
     }
 }
 
@@ -70,24 +56,21 @@ pub fn behind(cursor: Cursor, due: Rule, counts: Counts) -> Cursor
     requires { Stepping cursor due counts }
     ensures { result ≡ behind_line counts cursor }
 {
-    let line = cursor.line + 1;
-    let pos = cursor.pos + (7 + 2 * due.width);
-    let at = cursor.at + due.width;
+    let next = Cursor {
+        line: cursor.line + 1,
+        pos: cursor.pos + (7 + 2 * due.width),
+        at: cursor.at + due.width,
+        ..cursor
+    };
     if 1 < cursor.left {
         return Cursor {
-            kind: cursor.kind,
             left: cursor.left - 1,
-            line: line,
-            pos: pos,
-            at: at,
+            ..next
         };
     }
-    let next = rule_of(due.next, counts);
     Cursor {
         kind: due.next,
-        left: next.lines,
-        line: line,
-        pos: pos,
-        at: at,
+        left: rule_of(due.next, counts).lines,
+        ..next
     }
 }

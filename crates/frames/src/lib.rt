@@ -8,21 +8,14 @@ ghost use Rattle.paper.specs.Lists.{pick, all_below, in_front};
 ghost use Rattle.pages.specs.Frames.{hex_of, digit_fits, frame_fits, payload, framed, frame};
 ghost use Rattle.frames.specs.Lines.{FrameIn, PayloadIn, LineIn, Near};
 
-use crate::digits::{byte_at, char_at, digit, hex};
+use crate::digits::{byte_at, char_at, count_at, digit, hex};
 
 // Whether the n bytes from pos on are digits.
 fn digits_fit(text: &[u8], pos: usize, n: usize) -> bool
     requires { pos + n < 65536 }
     ensures { result ≡ all_below n (digit_fits text.now pos) }
 {
-    let mut i = 0;
-    while i < n {
-        if 16 <= digit(char_at(text, pos + i)) {
-            return false;
-        }
-        i += 1;
-    }
-    true
+    (0..n).all(|i| digit(char_at(text, pos + i)).is_some())
 }
 
 // Whether the line at pos is a frame of this kind with a payload of w bytes.
@@ -30,10 +23,13 @@ fn frame_fits(text: &[u8], pos: usize, kind: usize, w: usize) -> bool
     requires { Near pos w }
     ensures { result ≡ frame_fits kind w text.now pos }
 {
-    if byte_at(text, pos) != kind {
+    let Some(found) = byte_at(text, pos) else {
+        return false;
+    };
+    if usize::from(found) != kind {
         return false;
     }
-    if byte_at(text, pos + 2) * 256 + byte_at(text, pos + 4) != w {
+    if count_at(text, pos + 2) != Some(w) {
         return false;
     }
     if char_at(text, pos + (6 + 2 * w)) != b'\n' {
@@ -47,14 +43,13 @@ fn put_payload(text: &[u8], pos: usize, w: usize, out: &mut [u8])
     requires { PayloadIn text.now pos w out.old }
     ensures { out.new ≡ in_front (payload w text.now pos) out.old }
 {
-    let mut i = 0;
-    while i < w {
-        out[i] = byte_at(text, pos + (6 + 2 * i)) as u8;
-        i += 1;
+    for i in 0..w {
+        out[i] = byte_at(text, pos + (6 + 2 * i)).unwrap();
     }
 }
 
-// The frame due at pos, to the front of a buffer; where the line is another one the buffer stays as it is.
+// Whether the frame due stands at pos: then its payload is written to the front of a buffer, and else the buffer stays as it is. A kind is
+// the number that document 01 matches on.
 pub fn read_frame(text: &[u8], pos: usize, kind: usize, w: usize, out: &mut [u8]) -> bool
     requires { FrameIn pos w out.old }
     ensures { (result ≡ frame_fits kind w text.now pos) × (out.new ≡ pick result (in_front (payload w text.now pos) out.old) out.old) }
@@ -80,10 +75,11 @@ fn frame_byte(kind: u8, payload: &[u8], j: usize) -> u8
     requires { j < 3 + length payload.now }
     ensures { result ≡ get_or (framed kind payload.now) j 0 }
 {
+    let [.., high, low] = payload.len().to_be_bytes();
     match j {
         0 => kind,
-        1 => (payload.len() / 256 % 256) as u8,
-        2 => (payload.len() % 256) as u8,
+        1 => high,
+        2 => low,
         _ => payload[j - 3],
     }
 }
@@ -93,10 +89,9 @@ pub fn put_frame(kind: u8, payload: &[u8], out: &mut [u8])
     requires { LineIn payload.now out.old }
     ensures { out.new ≡ in_front (frame kind payload.now) out.old }
 {
-    let mut j = 0;
-    while j < 3 + payload.len() {
+    let bytes = 3 + payload.len();
+    for j in 0..bytes {
         put_byte(out, 2 * j, frame_byte(kind, payload, j));
-        j += 1;
     }
-    out[2 * j] = b'\n';
+    out[2 * bytes] = b'\n';
 }

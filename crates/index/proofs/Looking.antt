@@ -2,20 +2,19 @@
 use mathlib.Core.Path.{◌≡◌, refl, sym, ap, ◌∙◌}
 use mathlib.Core.Bool.{Bool, true, false, not}
 use mathlib.Core.List.{List}
-use Prim.Native.Nat.{ℕ, suc, ◌+◌, ◌*◌, ◌≤◌, ◌<◌}
+use Prim.Native.Nat.{ℕ, suc, ◌+◌, ◌*◌, ◌<◌}
 use native.Mathlib.Omega.{arith}
-use lib.ListN.{length, get_or, set, length-set}
-use lib.Seq.{get_or-set_same, get_or-set_other}
+use lib.ListN.{length, get_or}
 use lib.Dec.{eqb}
 use borrow.Author.Tests.{eqb-true, eq-eqb}
-use borrow.Author.Count.{below_more, below_none}
-use Rattle.replies.specs.declared.Shape.{Shape}
 use Rattle.paper.specs.Lists.{both, same_list}
+use Rattle.paper.specs.Chart.{n_of}
 use Rattle.paper.specs.Sheets.{line_size, line_at, line_state, line_vector, other_pair, on_sheet}
 use Rattle.lists.proofs.Tests.{all_by, all_fails, both_split, both_true}
 use Rattle.lists.proofs.ByPlace.{same_true, same_false, same_by, get_or_part}
 use Rattle.marks.specs.Marks.{mark_of}
 use Rattle.marks.specs.Chains.{bucket_of, Chained}
+use Rattle.marks.specs.declared.chains.Index.{Index}
 use Rattle.marks.proofs.ChainLaws.{OnChain, NoneFrom, start_on, next_on, none_start, none_next}
 use Rattle.lines.specs.Readable.{LinesIn, Indexed, pair_state, pair_vector}
 use Rattle.lines.proofs.Reading.{line_in}
@@ -24,32 +23,9 @@ use Rattle.lines.proofs.PairBytes.{line_state_lem, line_vector_lem, line_pair}
 -- ---- filling
 
 -- the lines before i are in the index
-pub record Indexing (c sheet : List ℕ) (lines : ℕ) (heads links marks : List ℕ) (i : ℕ) : Type 0 where
-  pub reached : i ≤ lines
-  pub linked : lines ≤ length links
-  pub marked : lines ≤ length marks
-  pub chained : Chained heads links marks i
-  pub numbered : (j : ℕ) → j < i → get_or marks j 0 ≡ mark_of (line_at c sheet j)
-
-module _ (c sheet : List ℕ) (lines : ℕ) where
-  pub indexing_start : {heads links marks : List ℕ} → lines ≤ length links → lines ≤ length marks → Chained heads links marks 0 → Indexing c sheet lines heads links marks 0
-  indexing_start l m k = record { reached = omega arith; linked = l; marked = m; chained = k; numbered = below_none _ }
-
-  pub indexing_more : {heads links marks heads' links' marks' line : List ℕ} {i number : ℕ} → Indexing c sheet lines heads links marks i → i < lines → length links' ≡ length links →
-      line ≡ line_at c sheet i → number ≡ mark_of line → Chained heads' links' marks' (i + 1) × (marks' ≡ set marks i number) → Indexing c sheet lines heads' links' marks' (i + 1)
-  indexing_more {marks = marks} {i = i} {number} x b l el en k =
-      record {
-        reached = omega arith;
-        linked = rw l x.linked;
-        marked = rw (k.1, length-set) x.marked;
-        chained = k.0;
-        numbered = rw k.1
-            (below_more _ _ (λ j a. get_or-set_other marks i j number 0 (λ e. omega arith) ∙ x.numbered j a)
-            (get_or-set_same marks i number 0 (omega (arith, x.marked)) ∙ en ∙ ap mark_of el));
-      }
-
-  pub indexing_end : {s : Shape} {heads links marks : List ℕ} {i : ℕ} → LinesIn c s sheet lines → Indexing c sheet lines heads links marks i → i ≡ lines → Indexed c s sheet lines heads links marks
-  indexing_end h x e = record { lines_in = h; chained = rw (← e) x.chained; numbered = λ j b. x.numbered j (omega arith) }
+pub record Indexing (c sheet : List ℕ) (index : Index) (i : ℕ) : Type 0 where
+  pub chained : Chained index i
+  pub numbered : (j : ℕ) → j < i → get_or index.marks j 0 ≡ mark_of (line_at c sheet j)
 
 -- ---- looking a pair up
 
@@ -58,22 +34,22 @@ pub record Looking (c sheet : List ℕ) (lines : ℕ) (marks : List ℕ) (number
   pub on : OnChain marks lines number p
   pub past : NoneFrom (λ t. line_at c sheet t ≡ pair) p lines
 
-module _ {c : List ℕ} {s : Shape} {sheet : List ℕ} {lines : ℕ} {heads links marks : List ℕ} (h : Indexed c s sheet lines heads links marks) {number : ℕ} (pair : List ℕ) (n : number ≡ mark_of pair) where
-  same_number : (t : ℕ) → t < lines → line_at c sheet t ≡ pair → get_or marks t 0 ≡ number
+module _ {c sheet : List ℕ} {lines : ℕ} {index : Index} (h : Indexed c sheet lines index) {number : ℕ} (pair : List ℕ) (n : number ≡ mark_of pair) where
+  same_number : (t : ℕ) → t < lines → line_at c sheet t ≡ pair → get_or index.marks t 0 ≡ number
   same_number t b q = h.numbered t b ∙ ap mark_of q ∙ sym n
 
-  pub looking_start : {p : ℕ} → p ≡ get_or heads (bucket_of number) 0 → Looking c sheet lines marks number pair p
+  pub looking_start : {p : ℕ} → p ≡ get_or index.heads (bucket_of number) 0 → Looking c sheet lines index.marks number pair p
   looking_start e = record { on = start_on h.chained number e; past = none_start h.chained number _ same_number e }
 
-  pub looking_next : {p i q : ℕ} {t : Bool} → Looking c sheet lines marks number pair p → suc i ≡ p → t ≡ same_list (line_at c sheet i) pair → t ≡ false → q ≡ get_or links i 0 →
-      Looking c sheet lines marks number pair q
+  pub looking_next : {p i q : ℕ} {t : Bool} → Looking c sheet lines index.marks number pair p → suc i ≡ p → t ≡ same_list (line_at c sheet i) pair → t ≡ false → q ≡ get_or index.links i 0 →
+      Looking c sheet lines index.marks number pair q
   looking_next {i = i} k f r w e =
       record {
         on = next_on h.chained number k.on f e;
         past = none_next h.chained number _ same_number k.on f e k.past (λ _. same_false (line_at c sheet i) pair (sym r ∙ w));
       }
 
-module _ {c : List ℕ} {s : Shape} {sheet : List ℕ} {lines : ℕ} (h : LinesIn c s sheet lines) (pair : List ℕ) where
+module _ {c sheet : List ℕ} {lines : ℕ} (h : LinesIn c sheet lines) (pair : List ℕ) where
   pub found : (i : ℕ) → i < lines → {t : Bool} → t ≡ same_list (line_at c sheet i) pair → t ≡ true → true ≡ on_sheet c sheet lines (pair_state pair) (pair_vector pair)
   unfolding on_sheet other_pair
   found i b r w =
@@ -81,7 +57,7 @@ module _ {c : List ℕ} {s : Shape} {sheet : List ℕ} {lines : ℕ} (h : LinesI
       let q = both_true _ _ (eq-eqb _ _ (line_state_lem (line_in h b) pair e)) (same_by _ _ (line_vector_lem (line_in h b) pair e)) in
       rw (all_fails (other_pair c sheet (pair_state pair) (pair_vector pair)) lines i b (ap not q))
 
-  module _ (l : length pair ≡ 2 + s.n) (bytes : (j : ℕ) → get_or sheet j 0 < 256) (low : get_or pair 1 0 < 256) where
+  module _ (l : length pair ≡ 2 + n_of c) (bytes : (j : ℕ) → get_or sheet j 0 < 256) (low : get_or pair 1 0 < 256) where
     second_low : (t : ℕ) → get_or (line_at c sheet t) 1 0 < 256
     unfolding line_at
     second_low t = rw (get_or_part (line_size c) t sheet 0 1 (omega arith)) (bytes (t * line_size c + 1))

@@ -1,80 +1,58 @@
-// Inner: an index of the lines, and looking a pair up in it. Each has a `requires`, so only proved code may call them.
+// Inner: a sheet with an index of its lines, and looking a pair up in it. Some have a `requires`, so only proved code may call them.
 #![tactic(auto)]
 
-ghost use Rattle.std.specs.Prelude.{◌≡◌, ◌+◌, ◌≤◌, ◌<◌, length, get_or};
+ghost use Rattle.std.specs.Prelude.{◌≡◌, ◌+◌, ◌<◌, length};
 ghost use Rattle.paper.specs.Lists.{same_list};
-ghost use Rattle.paper.specs.Sheets.{line_at, on_sheet};
+ghost use Rattle.paper.specs.Chart.{n_of};
+ghost use Rattle.paper.specs.Sheets.{line_at};
 ghost use Rattle.marks.specs.Marks.{mark_of};
-ghost use Rattle.marks.specs.Chains.{Chained};
-ghost use Rattle.lines.specs.Readable.{LineIn, LinesIn, Indexed, pair_state, pair_vector};
+ghost use Rattle.lines.specs.Held.{pair_held};
+ghost use Rattle.lines.specs.Readable.{Indexed, pair_state, pair_vector};
 
-use lines::line_bytes;
-use marks::chains::{chain, earlier, last_with};
+use lines::sheet::Sheet;
+use marks::chains::Index;
 use marks::{mark, same};
-use replies::Shape;
 
-// Fills an empty index with the lines' numbers.
-pub fn index_lines(
-    chart: &[u8],
-    shape: Shape,
-    sheet: &[u8],
-    lines: usize,
-    heads: &mut [u16],
-    links: &mut [u16],
-    marks: &mut [u32],
-)
-    requires { LinesIn chart.now shape sheet.now lines × Chained heads.old links.old marks.old 0 × (lines ≤ length links.old) × (lines ≤ length marks.old) }
-    ensures { Indexed chart.now shape sheet.now lines heads.new links.new marks.new }
-{
-    let mut i = 0;
-    while i < lines {
-        let number = mark(line_bytes(chart, shape, sheet, i));
-        chain(heads, links, marks, i, number);
-        i += 1;
-    }
+// A sheet that fits, with an index of its lines' numbers.
+#[derive(Drop)]
+pub struct IndexedSheet<'a> {
+    pub sheet: Sheet<'a>,
+    pub index: Index,
+    pub ghost indexed: { Indexed sheet.chart.now sheet.bytes.now sheet.lines index },
 }
 
-// Whether line i holds this pair's bytes. They are compared only where the numbers agree.
-pub fn is_pair(
-    chart: &[u8],
-    shape: Shape,
-    sheet: &[u8],
-    marks: &[u32],
-    i: usize,
-    number: u32,
-    pair: &[u8],
-) -> bool
-    requires { LineIn chart.now shape sheet.now i × (i < length marks.now) × (get_or marks.now i 0 ≡ mark_of (line_at chart.now sheet.now i)) × (number ≡ mark_of pair.now) × (length pair.now ≡ 2 + shape.n) }
-    ensures { result ≡ same_list (line_at chart.now sheet.now i) pair.now }
-{
-    if marks[i] != number {
-        return false;
-    }
-    same(line_bytes(chart, shape, sheet, i), pair)
-}
-
-// Whether some line is this pair: the lines whose numbers share a bucket with the pair's are looked at, the last one first.
-pub fn on_sheet(
-    chart: &[u8],
-    shape: Shape,
-    sheet: &[u8],
-    lines: usize,
-    heads: &[u16],
-    links: &[u16],
-    marks: &[u32],
-    pair: &[u8],
-) -> bool
-    requires { Indexed chart.now shape sheet.now lines heads.now links.now marks.now × (length pair.now ≡ 2 + shape.n) }
-    ensures { result ≡ on_sheet chart.now sheet.now lines (pair_state pair.now) (pair_vector pair.now) }
-{
-    let number = mark(pair);
-    let mut p = last_with(heads, number);
-    while p != 0 {
-        let i = p - 1;
-        if is_pair(chart, shape, sheet, marks, i, number, pair) {
-            return true;
+impl<'a> IndexedSheet<'a> {
+    pub fn new(sheet: Sheet<'a>) -> Self
+        ensures { result.sheet ≡ sheet.entry }
+    {
+        let mut index = Index::new();
+        for i in 0..sheet.lines {
+            index.chain(i, mark(sheet.line(i)));
         }
-        p = earlier(links, i);
+        IndexedSheet { sheet, index }
     }
-    false
+
+    // Whether line i holds this pair's bytes. They are compared only where the numbers agree.
+    fn is_pair(&self, i: usize, number: u32, pair: &[u8]) -> bool
+        requires { (i < self.now.sheet.lines) × (number ≡ mark_of pair.now) }
+        ensures { result ≡ same_list (line_at self.now.sheet.chart.now self.now.sheet.bytes.now i) pair.now }
+    {
+        self.index.number_of(i) == number && same(self.sheet.line(i), pair)
+    }
+
+    // Whether some line is this pair: the lines whose numbers share a bucket with the pair's are looked at, the last one first.
+    pub fn holds(&self, pair: &[u8]) -> bool
+        requires { length pair.now ≡ 2 + n_of self.now.sheet.chart.now }
+        ensures { result ≡ pair_held self.now.sheet (pair_state pair.now) (pair_vector pair.now) }
+    {
+        let number = mark(pair);
+        let mut next = self.index.last_with(number);
+        while let Some(i) = next {
+            if self.is_pair(i, number, pair) {
+                return true;
+            }
+            next = self.index.earlier(i);
+        }
+        false
+    }
 }

@@ -12,6 +12,7 @@ pub fn read_full<R: Read>(input: &mut R, buffer: &mut [u8]) -> io::Result<usize>
     ensures prefix_len { IfOk result (λ size. IsPrefixLen size buffer.new) }
     ensures kept_length { length buffer.new ≡ length buffer.old }
 {
+    // std has no such call: its `read_exact` refuses an input that ends early, and does not say how many bytes came
     let mut done = 0;
     while done < buffer.len() {
         let got = input.read(&mut buffer[done..])?;

@@ -2,25 +2,23 @@
 #![tactic(auto)]
 
 ghost use Rattle.std.specs.Prelude.{◌≡◌, ◌+◌, ◌*◌, ◌≤◌, length};
+ghost use Rattle.paper.specs.Chart.{n_of, letters};
 ghost use Rattle.paper.specs.Lists.{in_front};
 ghost use Rattle.paper.specs.Constructions.{reduced_key};
-ghost use Rattle.cells.specs.Shaped.{Shaped};
-ghost use Rattle.kinds.specs.Ready.{Value};
+ghost use Rattle.cells.specs.Shaped.{Vector};
 
-use replies::Shape;
+use cells::Chart;
 use vectors::times::{end_grade, row_times};
 
 // The key of the vector v in the reduced table, into the front of `out`: what each letter makes of it, and its grade.
-pub fn put_key(chart: &[u8], shape: Shape, v: &[u8], out: &mut [u8])
-    requires { Shaped chart.now shape × Value shape.k shape.n v.now × (shape.letters * shape.n + 1 ≤ length out.old) }
+pub fn put_key(chart: &Chart, v: &[u8], out: &mut [u8])
+    requires { Vector chart.now v.now × (letters chart.now * n_of chart.now + 1 ≤ length out.old) }
     ensures { out.new ≡ in_front (reduced_key chart.now v.now) out.old }
 {
-    let mut at = 0;
-    let mut letter = 0;
-    while letter < shape.letters {
-        row_times(chart, shape, letter, v, &mut out[at..]);
-        at += shape.n;
-        letter += 1;
+    let n = chart.n();
+    let letters = chart.letters();
+    for letter in 0..letters {
+        row_times(chart, letter, v, &mut out[letter * n..]);
     }
-    out[at] = end_grade(chart, shape, v);
+    out[letters * n] = end_grade(chart, v);
 }

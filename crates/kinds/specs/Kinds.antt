@@ -6,10 +6,9 @@ use Rattle.paper.specs.Vectors.{row_times, times_col, end_grade, start_grade}
 use Rattle.paper.specs.Numbering.{itself}
 use Rattle.paper.specs.Tables.{grade_at, next_at}
 use Rattle.paper.specs.Constructions.{Construction, reduced_key, row_grade}
-use Rattle.replies.specs.declared.Shape.{Shape}
 use Rattle.kinds.specs.declared.Kind.{Kind}
 use Rattle.kinds.specs.declared.Kind.TheVariants.{Nerode, Reduced, Reverse, Rows}
-use Rattle.kinds.specs.declared.Plan.{Plan}
+use Rattle.kinds.specs.declared.plan.Plan.{Plan}
 
 -- the reverse table's grade bytes
 unfoldable pub grades_in : List ℕ → ℕ → ℕ → List ℕ
@@ -58,25 +57,18 @@ unfoldable pub letter_same : List ℕ → List ℕ → ℕ → List ℕ → ℕ 
 letter_same c v n key x = same_list (row_times c x v) (part n x key)
 
 -- how many bytes a key has
-abbrev pub key_size : Kind → Shape → ℕ → ℕ
-key_size Nerode s w = w
-key_size Reduced s w = s.letters * s.n + 1
-key_size Reverse s w = w
-key_size Rows s w = w
+abbrev pub key_size : Kind → List ℕ → ℕ → ℕ
+key_size Nerode c w = w
+key_size Reduced c w = letters c * n_of c + 1
+key_size Reverse c w = w
+key_size Rows c w = w
 
 abbrev pub made_by : Kind → List ℕ → List ℕ → ℕ → ℕ → Construction
 made_by kind c t m r = record { first = first_by kind c t m r; step = step_by kind c t m r; key = key_by kind c; grade = grade_by kind c }
 
--- what a plan makes of a chart and a reverse table
-abbrev pub made : Plan → List ℕ → List ℕ → Construction
-made p c t = made_by p.kind c t p.shape.letters p.width
-
--- whether values are vectors of the chart; then no reverse table is read
-abbrev pub of_vectors : Kind → Bool
-of_vectors Nerode = true
-of_vectors Reduced = true
-of_vectors Reverse = true
-of_vectors Rows = false
+-- what a plan makes of its chart and its reverse table
+abbrev pub made : Plan → Construction
+made p = made_by p.kind p.chart.now p.reverse.now (letters p.chart.now) p.width
 
 abbrev pub vectors_by : Kind → List ℕ → Construction
 vectors_by kind c = made_by kind c c (letters c) (n_of c)

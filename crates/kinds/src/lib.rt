@@ -4,9 +4,11 @@
 ghost use Rattle.std.specs.Prelude.{◌≡◌};
 ghost use Rattle.kinds.specs.Kinds.{keyed};
 
-use replies::Shape;
+pub mod plan;
 
-#[derive(Clone, Copy)]
+// A kind decides first value, step, key and grade together, and contracts say by one word, `made`, which construction that is. Traits or
+// closures would carry the four, with their laws, through every contract from the search to the walk; there are no other kinds.
+#[derive(Clone, Copy, Debug, PartialEq, Eq)]
 pub enum Kind {
     Nerode,
     Reduced,
@@ -14,24 +16,9 @@ pub enum Kind {
     Rows,
 }
 
-// What is made, and its sizes: `width` bytes a value, one every `stride` bytes, and at most `room` states.
-#[derive(Clone, Copy)]
-pub struct Plan {
-    pub kind: Kind,
-    pub shape: Shape,
-    pub width: usize,
-    pub stride: usize,
-    pub room: usize,
-}
-
 // Whether values have keys of their own: in the reduced table. Elsewhere a value is its own key.
 pub fn keyed(kind: Kind) -> bool
     ensures { result ≡ keyed kind }
 {
-    match kind {
-        Kind::Nerode => false,
-        Kind::Reduced => true,
-        Kind::Reverse => false,
-        Kind::Rows => false,
-    }
+    matches!(kind, Kind::Reduced)
 }

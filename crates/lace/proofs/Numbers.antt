@@ -1,24 +1,19 @@
 -- The numbers that the C calls answer, case by case of an answer. Assumes nothing.
+use Rattle.std.specs.Prelude.{Result, Ok, Err}
+use Rattle.std.specs.Result.{result_unwrap_or}
 use mathlib.Core.Path.{◌≡◌, refl}
 use Prim.Native.Nat.{ℕ}
 use Rattle.paper.specs.Tables.{grade_code, step_code}
 use Rattle.replies.specs.Replies.{said, stepped_said, graded_said}
 use Rattle.replies.specs.declared.Refusal.{Refusal}
 use Rattle.replies.specs.declared.Refusal.TheVariants.{Sizes, Short, Grade, Law, Room, Reverse, States, Letter, Table, Sheet, Start, Line, Next, Text}
-use Rattle.replies.specs.declared.Stepped.{Stepped}
-use Rattle.replies.specs.declared.Graded.{Graded}
 use Rattle.replies.proofs.Said.{said_refuses}
 
--- ---- a grade's number
-
-module _ (answer : Graded) where
-  pub grade_given : (g : ℕ) → answer ≡ Graded.Grade g → g ≡ grade_code (graded_said answer)
-  unfolding grade_code
-  grade_given g e = rw e
-
-  pub grade_refused : (why : Refusal) → answer ≡ Graded.Refused why → ◌≡◌ {A = ℕ} 255 (grade_code (graded_said answer))
-  unfolding grade_code
-  grade_refused why e = rw (e, said_refuses why)
+-- a grade's number
+pub grade_is : (answer : Result ℕ Refusal) → result_unwrap_or answer 255 ≡ grade_code (graded_said answer)
+unfolding grade_code
+grade_is (Ok g) = refl
+grade_is (Err why) = rw (said_refuses why)
 
 -- ---- a step's number
 
@@ -43,14 +38,14 @@ said_other (Line line) k = refl
 said_other (Next line letter) k = refl
 said_other (Text line) k = refl
 
-module _ (answer : Stepped) where
-  pub step_given : (s : ℕ) → answer ≡ Stepped.Next s → s ≡ step_code (stepped_said answer)
+module _ (answer : Result ℕ Refusal) where
+  pub step_given : (s : ℕ) → answer ≡ Ok s → s ≡ step_code (stepped_said answer)
   unfolding step_code
   step_given s e = rw e
 
-  pub step_letter : (why : Refusal) → answer ≡ Stepped.Refused why → (at : ℕ) → why ≡ Letter at → ◌≡◌ {A = ℕ} 65534 (step_code (stepped_said answer))
+  pub step_letter : (why : Refusal) → answer ≡ Err why → (at : ℕ) → why ≡ Letter at → ◌≡◌ {A = ℕ} 65534 (step_code (stepped_said answer))
   unfolding step_code
   step_letter why e at q = rw (e, q)
 
-  pub step_other : (why : Refusal) → answer ≡ Stepped.Refused why → NoLetter why → ◌≡◌ {A = ℕ} 65535 (step_code (stepped_said answer))
+  pub step_other : (why : Refusal) → answer ≡ Err why → NoLetter why → ◌≡◌ {A = ℕ} 65535 (step_code (stepped_said answer))
   step_other why e k = rw e (said_other why k)

@@ -5,29 +5,27 @@ ghost use Rattle.std.specs.Prelude.{◌≡◌};
 ghost use Rattle.replies.specs.Replies.{stepped_said, graded_said};
 ghost use Rattle.paper.specs.Tables.{step_reply, grade_reply, step_code, grade_code};
 
-use replies::{Graded, Refusal, Stepped};
+use replies::Refusal;
 
 // A step's answer as one number: the next state, 65,534 for refusal 8, 65,535 for refusal 9.
-fn step_number(answer: Stepped) -> u16
+fn step_number(answer: Result<u16, Refusal>) -> u16
     ensures { result ≡ step_code (stepped_said answer) }
 {
     match answer {
-        Stepped::Next(next) => next,
-        Stepped::Refused(why) => match why {
-            Refusal::Letter { at: _ } => 65534,
+        Ok(next) => next,
+        // Inside `Err`, so that the last arm is told that it is not the letter's.
+        Err(why) => match why {
+            Refusal::Letter { .. } => 65534,
             _ => 65535,
         },
     }
 }
 
 // A grade's answer as one number: the grade, or 255 for refusal 9.
-fn grade_number(answer: Graded) -> u8
+fn grade_number(answer: Result<u8, Refusal>) -> u8
     ensures { result ≡ grade_code (graded_said answer) }
 {
-    match answer {
-        Graded::Grade(grade) => grade,
-        Graded::Refused(_) => 255,
-    }
+    answer.unwrap_or(255)
 }
 
 // One step from a state by a letter.

@@ -1,2 +1,1 @@
-mod FirstBroken
 mod Tries

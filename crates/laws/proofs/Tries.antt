@@ -1,15 +1,19 @@
 -- How often a law has to be tried, and what the tries show. Assumes nothing.
+use Rattle.std.specs.Prelude.{Option, Some, None}
 use mathlib.Core.Path.{◌≡◌, refl, sym, ◌∙◌}
 use mathlib.Core.Bool.{Bool, true, false}
 use mathlib.Core.Logic.{◌⊎◌, inl, inr}
 use mathlib.Core.List.{List}
 use Prim.Native.Nat.{ℕ, zero, suc, ◌+◌, ◌≤◌, ◌<◌}
 use native.Mathlib.Omega.{arith}
+use lib.Dec.{ltb}
+use Rattle.std.specs.Option.{MatchOption}
+use borrow.Author.Tests.{lt-ltb, le-ltb, ltb-true, ltb-false}
 use borrow.Author.Count.{below_none, below_more}
-use Rattle.paper.specs.Lists.{all_below, least_fail}
+use Rattle.paper.specs.Lists.{pick, all_below, least_fail}
 use Rattle.paper.specs.Check.{laws, law_at, law_at_two}
 use Rattle.lists.proofs.Tests.{all_by, all_fails, least, least_is, least_all, least_none}
-use Rattle.laws.specs.Laws.{Enough}
+use Rattle.laws.specs.Laws.{Enough, first_for}
 
 -- all of the numbers
 pub every : {k : ℕ} {test : ℕ → Bool} → Enough k k test
@@ -63,17 +67,45 @@ module _ {k n : ℕ} {test : ℕ → Bool} where
     tried_more h e = record { enough = t.enough; within = omega arith; passed = below_more _ i t.passed e }
 
     -- where it fails, or where it never does, is the least number at which the test fails
-    pub fails_at : {most : ℕ} → k ≡ most → i < n → test i ≡ false → i ≡ least_fail most test
-    fails_at {most} m h e = sym (least_is test most i (omega (arith, t.enough.low)) t.passed e)
+    pub fails_at : i < n → test i ≡ false → i ≡ least_fail k test
+    fails_at h e = sym (least_is test k i (omega (arith, t.enough.low)) t.passed e)
 
-    pub fails_nowhere : {most : ℕ} → k ≡ most → n ≤ i → k ≡ least_fail most test
-    fails_nowhere m h = m ∙ sym (least_none test _ (λ j l. t.enough.all (λ j l. t.passed j (omega arith)) j (omega arith)))
+    pub fails_nowhere : n ≤ i → k ≡ least_fail k test
+    fails_nowhere h = sym (least_none test _ (λ j l. t.enough.all (λ j l. t.passed j (omega arith)) j (omega arith)))
 
--- ---- from the first failure to all tests
+    -- so the loop's answer is that of the least
+    module _ {A : Type 0} (told : ℕ → A) where
+      pub some_first : i < n → test i ≡ false → Some (told i) ≡ first_for k told (least_fail k test)
+      some_first h e = let q = fails_at h e in rw (← q, lt-ltb i k (omega (arith, t.enough.low)))
 
-module _ (test : ℕ → Bool) {k most r : ℕ} (m : k ≡ most) (e : r ≡ least_fail most test) where
-  pub all_pass : k ≤ r → all_below most test ≡ true
-  all_pass h = all_by test most (least_all test most (omega arith))
+      pub none_first : n ≤ i → None ≡ first_for k told (least_fail k test)
+      none_first h = let q = fails_nowhere h in rw (← q, le-ltb k k (omega arith))
 
-  pub one_fails : r < k → all_below most test ≡ false
-  one_fails h = all_fails test most (least_fail most test) (omega arith) ((least test most).fails (omega arith))
+-- `find` among enough numbers finds the least of all
+pub found_first : {k n : ℕ} (test : ℕ → Bool) → Enough k n test → (r : Option ℕ) → MatchOption r (least_fail n test ≡ n) (λ i. (i < n) × (least_fail n test ≡ i)) →
+    r ≡ first_for k (λ i. i) (least_fail k test)
+found_first {n} test enough None e =
+    none_first (record { enough = enough; within = omega arith; passed = least_all test n (omega arith) }) (λ i. i) (omega arith)
+found_first {n} test enough (Some i) h =
+    let low : least_fail n test < n = omega (arith, h.0, h.1) in
+    some_first (record { enough = enough; within = omega (arith, h.0); passed = λ j l. (least test n).before j (omega (arith, h.1)) }) (λ i. i) h.0 (rw h.1 at ((least test n).fails low))
+
+-- ---- from an answer of the first failure to all tests
+
+module _ (k : ℕ) (test : ℕ → Bool) {A : Type 0} (told : ℕ → A) {r : Option A} (e : r ≡ first_for k told (least_fail k test)) where
+  pub none_fails : ((x : A) → r ≡ Some x → ⊥) → all_below k test ≡ true
+  none_fails none = go (ltb (least_fail k test) k) refl e
+    where
+      go : (b : Bool) → ltb (least_fail k test) k ≡ b → r ≡ pick b (Some (told (least_fail k test))) None → all_below k test ≡ true
+      go true p h = absurd (none _ h)
+      go false p h = all_by test k (least_all test k (omega (arith, ltb-false _ _ p)))
+
+  pub some_fails : {x : A} → r ≡ Some x → (all_below k test ≡ false) × (x ≡ told (least_fail k test))
+  some_fails {x} some = go (ltb (least_fail k test) k) refl e
+    where
+      go : (b : Bool) → ltb (least_fail k test) k ≡ b → r ≡ pick b (Some (told (least_fail k test))) None →
+          (all_below k test ≡ false) × (x ≡ told (least_fail k test))
+      go true p h =
+          let low : least_fail k test < k = omega (arith, ltb-true _ _ p) in
+          (all_fails test k (least_fail k test) low ((least test k).fails low), cc)
+      go false p h = absurd (cc)

@@ -1,25 +1,16 @@
-// The first law that is broken, and its first grades. Each has a `requires`, so only proved code may call them.
+// The first law that is broken, and its first grades. Some have a `requires`, so only proved code may call them.
 #![tactic(auto)]
 
 ghost use Rattle.std.specs.Prelude.{◌≡◌, List, ℕ, ◌<◌};
-ghost use Rattle.paper.specs.Check.{law_at, law_at_two, broken_a, broken_b, broken_c};
-ghost use Rattle.cells.specs.Shaped.{Shaped};
-ghost use Rattle.laws.specs.Laws.{Enough, FirstBroken};
+ghost use Rattle.paper.specs.Chart.{k_of};
+ghost use Rattle.paper.specs.Check.{law_at, law_at_two};
+ghost use Rattle.laws.specs.Laws.{Enough, FirstBroken, first_one, first_two, first_three};
 
+use cells::Chart;
 use law_tests::law_at;
-use replies::Shape;
+use replies::Refusal;
 
-// Where the laws are first broken: the paper's number of the law, and its grades.
-#[derive(Clone, Copy)]
-pub enum Broken {
-    Nowhere,
-    At {
-        law: usize,
-        a: usize,
-        b: usize,
-        c: usize,
-    },
-}
+// A law goes by its number, which refusal 4 names. The two tables below say different things of the same laws, and each is one match.
 
 // At how many values of c a law is tried with each a and b: all where it speaks of c, else one.
 pub fn tries_c(law: usize, k: usize) -> usize
@@ -43,72 +34,52 @@ pub fn tries_b(law: usize, k: usize) -> usize
     }
 }
 
-// The first c with which the law is broken at a and b, or k.
-pub fn first_c(chart: &[u8], shape: Shape, law: usize, a: u8, b: u8) -> usize
-    requires { Shaped chart.now shape × (a < shape.k) × (b < shape.k) }
-    ensures { result ≡ broken_c chart.now law a b }
+// The first c with which the law is broken at a and b.
+pub fn first_c(chart: &Chart, law: usize, a: u8, b: u8) -> Option<usize>
+    requires { (a < k_of chart.now) × (b < k_of chart.now) }
+    ensures { result ≡ first_one chart.now law a b }
 {
-    let count = tries_c(law, shape.k);
-    let mut c = 0;
-    while c < count {
-        if !law_at(chart, shape, law, a, b, c as u8) {
-            return c;
-        }
-        c += 1;
-    }
-    shape.k
+    (0..tries_c(law, chart.k())).find(|c| !law_at(chart, law, a, b, *c as u8))
 }
 
-// The first b with which, for some c, the law is broken at a, or k.
-pub fn first_b(chart: &[u8], shape: Shape, law: usize, a: u8) -> usize
-    requires { Shaped chart.now shape × (a < shape.k) }
-    ensures { result ≡ broken_b chart.now law a }
+// The first b with which, for some c, the law is broken at a, and the first c.
+pub fn first_b(chart: &Chart, law: usize, a: u8) -> Option<(usize, usize)>
+    requires { a < k_of chart.now }
+    ensures { result ≡ first_two chart.now law a }
 {
-    let count = tries_b(law, shape.k);
-    let mut b = 0;
-    while b < count {
-        if first_c(chart, shape, law, a, b as u8) < shape.k {
-            return b;
+    for b in 0..tries_b(law, chart.k()) {
+        if let Some(c) = first_c(chart, law, a, b as u8) {
+            return Some((b, c));
         }
-        b += 1;
     }
-    shape.k
+    None
 }
 
-// The first a with which, for some b and c, the law is broken, or k.
-pub fn first_a(chart: &[u8], shape: Shape, law: usize) -> usize
-    requires { Shaped chart.now shape }
-    ensures { result ≡ broken_a chart.now law }
+// The first a with which, for some b and c, the law is broken, and the first b and c.
+pub fn first_a(chart: &Chart, law: usize) -> Option<(usize, usize, usize)>
+    ensures { result ≡ first_three chart.now law }
 {
-    let mut a = 0;
-    while a < shape.k {
-        if first_b(chart, shape, law, a as u8) < shape.k {
-            return a;
+    for a in 0..chart.k() {
+        if let Some((b, c)) = first_b(chart, law, a as u8) {
+            return Some((a, b, c));
         }
-        a += 1;
     }
-    shape.k
+    None
 }
 
-// The first broken law, with its first grades.
-pub fn first_broken(chart: &[u8], shape: Shape) -> Broken
-    requires { Shaped chart.now shape }
+// Whether all laws hold: else the first that is broken, with its first grades.
+pub fn first_broken(chart: &Chart) -> Result<(), Refusal>
     ensures { FirstBroken chart.now result }
 {
-    let mut law = 0;
-    while law < 8 {
-        let a = first_a(chart, shape, law);
-        if a < shape.k {
-            let b = first_b(chart, shape, law, a as u8);
-            let c = first_c(chart, shape, law, a as u8, b as u8);
-            return Broken::At {
+    for law in 0..8 {
+        if let Some((a, b, c)) = first_a(chart, law) {
+            return Err(Refusal::Law {
                 law: law + 1,
-                a: a,
-                b: b,
-                c: c,
-            };
+                a,
+                b,
+                c,
+            });
         }
-        law += 1;
     }
-    Broken::Nowhere
+    Ok(())
 }

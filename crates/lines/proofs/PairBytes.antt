@@ -1,14 +1,14 @@
 -- The bytes of a pair: writing them, reading them back, and when a line holds them. Assumes nothing.
 use mathlib.Core.Path.{◌≡◌, refl, sym, ap, ap₂, ◌∙◌}
 use mathlib.Core.Bool.{Bool}
-use mathlib.Core.List.{List, [], ◌∷◌, append-nil}
-use Prim.Native.Nat.{ℕ, zero, suc, ◌+◌, ◌-◌, ◌/◌, ◌%◌, ◌≤◌, ◌<◌}
+use mathlib.Core.List.{List, ◌++◌, append-nil}
+use Prim.Native.Nat.{ℕ, zero, suc, ◌+◌, ◌-◌, ◌≤◌, ◌<◌}
 use native.Mathlib.Omega.{arith}
-use lib.ListN.{length, get_or, take, drop, set, drop_of_length-le}
-use lib.Seq.{take_at, take_all, get_or-drop, ext_get_or}
+use lib.ListN.{length, get_or, take, drop, drop_of_length-le}
+use lib.Seq.{drop-drop, length-take-le, take_at, take_all, get_or-drop, ext_get_or}
 use borrow.Rule.Slice.PartMut.{put_mid}
-use Rattle.replies.specs.declared.Shape.{Shape}
-use Rattle.paper.specs.Lists.{in_front}
+use Rattle.paper.specs.Lists.{in_front, zeros}
+use Rattle.paper.specs.Chart.{n_of}
 use Rattle.paper.specs.Tables.{two_bytes}
 use Rattle.paper.specs.Sheets.{line_at, line_state, line_vector, on_sheet}
 use Rattle.lines.specs.Readable.{LineIn, pair_state, pair_vector, pair_of}
@@ -16,19 +16,22 @@ use Rattle.lines.proofs.Reading.{line_length}
 
 -- ---- writing a pair
 
--- a buffer with the two bytes of state s at its front
-abbrev pub stated : ℕ → List ℕ → List ℕ
-stated s old = set (set old 0 (s / 256 % 256)) 1 (s % 256)
+-- two bytes, copied over the front, and the vector written behind them, into the part lent from place 2 on
+module _ (old b v p : List ℕ) (l : 2 ≤ length old) where
+  abbrev pub begun : List ℕ
+  begun = b ++ drop 2 old
 
--- the vector is written behind them, into the part lent from place 2 on
-pub pair_put : (s : ℕ) (old v p : List ℕ) → 2 ≤ length old → p ≡ in_front v (take (length (stated s old) - 2) (drop 2 (stated s old))) →
-    put_mid 2 (length (stated s old) - 2) (stated s old) p ≡ in_front (pair_of s v) old
-unfolding in_front pair_of two_bytes
-pair_put s [] v p l e = absurd (omega arith)
-pair_put s (x ∷ []) v p l e = absurd (omega arith)
-pair_put s (x ∷ y ∷ r) v p l e =
-    let w : length r ≤ suc (suc (length r)) - 2 = omega arith in
-    rw (e, take_all _ r w, drop_of_length-le r w, append-nil)
+  pub pair_put : (s : ℕ) → b ≡ two_bytes s → p ≡ in_front v (take (length begun - 2) (drop 2 begun)) → put_mid 2 (length begun - 2) begun p ≡ in_front (pair_of s v) old
+  unfolding in_front pair_of two_bytes
+  pair_put s q e =
+      let w : length (drop 2 old) ≤ suc (suc (length (drop 2 old))) - 2 = omega arith in
+      let n : 2 + length v ≡ suc (suc (length v)) = omega arith in
+      rw (e, q, take_all _ (drop 2 old) w, drop_of_length-le (drop 2 old) w, append-nil, drop-drop, n)
+
+-- the two bytes of state 0
+pub zero_bytes : (old : List ℕ) {b : List ℕ} → 2 ≤ length old → b ≡ zeros (take 2 old) → b ≡ two_bytes 0
+unfolding two_bytes
+zero_bytes old l e = e ∙ rw (length-take-le 2 old l)
 
 -- ---- reading it back
 
@@ -50,9 +53,6 @@ module _ (s : ℕ) (v : List ℕ) where
     unfolding in_front
     pair_front = rw e (take_at (pair_of s v) (drop (length (pair_of s v)) old) (2 + n) (length_pair ∙ omega arith))
 
-    pub length_front : length (take (2 + n) out) ≡ 2 + n
-    length_front = ap length pair_front ∙ length_pair ∙ omega arith
-
     -- what was looked up is the pair of s and v
     pub pair_said : (c sheet : List ℕ) (lines : ℕ) {r : Bool} → s < 65536 → r ≡ on_sheet c sheet lines (pair_state (take (2 + n) out)) (pair_vector (take (2 + n) out)) → r ≡ on_sheet c sheet lines s v
     pair_said c sheet lines h q =
@@ -60,7 +60,7 @@ module _ (s : ℕ) (v : List ℕ) where
 
 -- ---- when a line holds it
 
-module _ {c : List ℕ} {s : Shape} {sheet : List ℕ} {i : ℕ} (h : LineIn c s sheet i) (pair : List ℕ) where
+module _ {c sheet : List ℕ} {i : ℕ} (h : LineIn c sheet i) (pair : List ℕ) where
   pub line_state_lem : line_at c sheet i ≡ pair → line_state c sheet i ≡ pair_state pair
   unfolding line_state
   line_state_lem e = ap pair_state e
@@ -70,7 +70,7 @@ module _ {c : List ℕ} {s : Shape} {sheet : List ℕ} {i : ℕ} (h : LineIn c s
   line_vector_lem e = ap pair_vector e
 
   -- the second bytes are below 256, so two states agree only where both their bytes do
-  pub line_pair : length pair ≡ 2 + s.n → get_or (line_at c sheet i) 1 0 < 256 → get_or pair 1 0 < 256 → line_state c sheet i ≡ pair_state pair → line_vector c sheet i ≡ pair_vector pair →
+  pub line_pair : length pair ≡ 2 + n_of c → get_or (line_at c sheet i) 1 0 < 256 → get_or pair 1 0 < 256 → line_state c sheet i ≡ pair_state pair → line_vector c sheet i ≡ pair_vector pair →
       line_at c sheet i ≡ pair
   unfolding line_state line_vector
   line_pair l a b p q = ext_get_or 0 (line_at c sheet i) pair (line_length h ∙ sym l) (λ j _. at j)

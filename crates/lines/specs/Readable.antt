@@ -1,39 +1,38 @@
 -- What the inner functions of the sheet check ask of their callers.
 use Rattle.std.specs.Prelude.{◌≡◌, List, [], ◌++◌, ℕ, ◌+◌, ◌*◌, ◌≤◌, ◌<◌, length, get_or, drop, leb}
-use Rattle.replies.specs.declared.Shape.{Shape}
 use Rattle.paper.specs.Lists.{unless}
 use Rattle.paper.specs.Reply.{Reply, fine}
 use Rattle.paper.specs.Chart.{letters, start_vec}
 use Rattle.paper.specs.Vectors.{row_times}
 use Rattle.paper.specs.Tables.{two_bytes, next_at}
-use Rattle.paper.specs.Sheets.{line_at, line_state, line_vector, on_sheet, bad_line, line_reply}
+use Rattle.paper.specs.Sheets.{line_size, line_at, line_state, line_vector, on_sheet, bad_line, line_reply}
 use Rattle.marks.specs.Marks.{mark_of}
 use Rattle.marks.specs.Chains.{Chained}
-use Rattle.cells.specs.Shaped.{Shaped}
+use Rattle.marks.specs.declared.chains.Index.{Index}
+use Rattle.cells.specs.Shaped.{Vector}
 use Rattle.rows.specs.RowIn.{RowIn}
 
--- a checked chart, and line i of the sheet inside the sheet's bytes
-pub record LineIn (c : List ℕ) (s : Shape) (sheet : List ℕ) (i : ℕ) : Type 0 where
-  pub shaped : Shaped c s
-  pub inside : i * (2 + s.n) + (2 + s.n) ≤ length sheet
+-- line i of the sheet inside the sheet's bytes
+pub record LineIn (c sheet : List ℕ) (i : ℕ) : Type 0 where
+  pub inside : i * line_size c + line_size c ≤ length sheet
 
--- a checked chart, and the sheet's lines inside its bytes
-pub record LinesIn (c : List ℕ) (s : Shape) (sheet : List ℕ) (lines : ℕ) : Type 0 where
-  pub shaped : Shaped c s
+-- the sheet's lines inside its bytes
+pub record LinesIn (c sheet : List ℕ) (lines : ℕ) : Type 0 where
   pub few : lines ≤ 4096
-  pub inside : lines * (2 + s.n) ≤ length sheet
+  pub inside : lines * line_size c ≤ length sheet
 
--- each line names a row of the table, and its vector is one of grades
-pub record Readable (c : List ℕ) (s : Shape) (rows sheet : List ℕ) (lines : ℕ) : Type 0 where
-  pub lines_in : LinesIn c s sheet lines
-  pub row : (i : ℕ) → i < lines → RowIn rows s.letters (line_state c sheet i)
-  pub low : (i p : ℕ) → i < lines → p < s.n → get_or (line_vector c sheet i) p 0 < s.k
+-- the sheet's lines inside its bytes; each line names a row of the table, and its vector is one of grades
+pub record Readable (c rows sheet : List ℕ) (lines : ℕ) : Type 0 where
+  pub lines_in : LinesIn c sheet lines
+  pub row : (i : ℕ) → i < lines → RowIn rows (letters c) (line_state c sheet i)
+  pub byte : (j : ℕ) → get_or sheet j 0 < 256
+  pub vector : (i : ℕ) → i < lines → Vector c (line_vector c sheet i)
 
 -- the lines have an index: place i's number is that of line i's bytes
-pub record Indexed (c : List ℕ) (s : Shape) (sheet : List ℕ) (lines : ℕ) (heads links marks : List ℕ) : Type 0 where
-  pub lines_in : LinesIn c s sheet lines
-  pub chained : Chained heads links marks lines
-  pub numbered : (i : ℕ) → i < lines → get_or marks i 0 ≡ mark_of (line_at c sheet i)
+pub record Indexed (c sheet : List ℕ) (lines : ℕ) (index : Index) : Type 0 where
+  pub lines_in : LinesIn c sheet lines
+  pub chained : Chained index lines
+  pub numbered : (i : ℕ) → i < lines → get_or index.marks i 0 ≡ mark_of (line_at c sheet i)
 
 -- a pair as a line holds it: the state's two bytes, then the vector
 abbrev pub pair_state : List ℕ → ℕ

@@ -1,6 +1,6 @@
 -- Lists by place: lengths, elements and parts of what the definitions of Lists make. Assumes nothing.
 use mathlib.Core.Path.{◌≡◌, refl, sym, ap, ap₂, ◌∙◌, subst}
-use mathlib.Core.Bool.{Bool, true, false, false≢true}
+use mathlib.Core.Bool.{Bool, true, false, ◌&&◌, false≢true}
 use mathlib.Core.List.{List, [], ◌∷◌, ◌++◌}
 use Prim.Native.Nat.{ℕ, zero, suc, ◌+◌, ◌*◌, ◌≤◌, ◌<◌}
 use native.Mathlib.Nat.{not-suc-le-zero, zero-mul, suc-mul, mul-le-mul_right}
@@ -9,6 +9,7 @@ use lib.Arith.{digits_lt}
 use lib.ListN.{length, get_or, length-append, length-take, length-drop, get_or-append}
 use lib.Seq.{get_or_at, ext_get_or, get_or-append-add, get_or-take, get_or-drop}
 use lib.Dec.{eqb}
+use lib.Pointwise.{pointwise}
 use borrow.Author.Tests.{eqb-true, eq-eqb}
 use Rattle.paper.specs.Lists.{pick, tabulate, joined, part, same_list}
 use Rattle.lists.proofs.Tests.{below_suc, not_both}
@@ -52,6 +53,18 @@ same_true (x ∷ a) (y ∷ b) e = go (eqb x y) refl e (same_true a b)
     go : (t : Bool) → eqb x y ≡ t → pick t (same_list a b) false ≡ true → (same_list a b ≡ true → a ≡ b) → x ∷ a ≡ y ∷ b
     go true q e ih = ap₂ (λ h t. h ∷ t) (eqb-true x y q) (ih e)
     go false q e ih = absurd (false≢true e)
+
+-- what the test of two slices says
+pub same_pointwise : (a b : List ℕ) → pointwise eqb a b ≡ same_list a b
+unfolding same_list
+same_pointwise [] [] = refl
+same_pointwise [] (y ∷ b) = refl
+same_pointwise (x ∷ a) [] = refl
+same_pointwise (x ∷ a) (y ∷ b) = ap₂ (λ t u. t && u) refl (same_pointwise a b) ∙ chosen (eqb x y) (same_list a b)
+  where
+    chosen : (t u : Bool) → t && u ≡ pick t u false
+    chosen true u = refl
+    chosen false u = refl
 
 pub same_refl : (a : List ℕ) → same_list a a ≡ true
 unfolding same_list

@@ -1,14 +1,13 @@
 -- Lent memory: what is written at the front of a buffer, and filling it with zeros. Assumes nothing.
 use mathlib.Core.Path.{◌≡◌, refl, sym, ◌∙◌}
-use mathlib.Core.List.{List, [], ◌∷◌, ◌++◌, append_assoc, append-nil}
+use mathlib.Core.List.{List, [], ◌∷◌, ◌++◌, append_assoc}
 use Prim.Native.Nat.{ℕ, ◌+◌, ◌-◌, ◌≤◌, ◌<◌}
 use native.Mathlib.Numerals.{add-one}
 use native.Mathlib.Omega.{arith}
-use lib.ListN.{length, get_or, drop, set, replicate, length-append, length-drop, drop_of_length-le, get_or-append}
+use lib.ListN.{length, get_or, drop, set, length-append, length-drop, get_or-append}
 use native.Mathlib.Decide.{dec_lt}
 use lib.Seq.{ext_get_or, set_at, drop-cons, get_or-drop, get_or-append-add}
-use borrow.Author.Fill.{fill_more}
-use Rattle.paper.specs.Lists.{tabulate, in_front, zeros}
+use Rattle.paper.specs.Lists.{tabulate, in_front}
 use Rattle.lists.proofs.ByPlace.{length_tabulate, get_or_tabulate}
 
 -- ---- at the front
@@ -59,11 +58,3 @@ front_is n old f h e =
     at i (no l) = sym (get_or_behind (tabulate n f) old i (rw length_tabulate (omega arith)))
 
 -- ---- zeros
-
-pub zeros_more : (i : ℕ) (out d : List ℕ) → i < length d → out ≡ replicate i 0 ++ drop i d → set out i 0 ≡ replicate (i + 1) 0 ++ drop (i + 1) d
-zeros_more i out d h e = rw e (fill_more i 0 d h)
-
-pub zeros_all : (i : ℕ) (out d : List ℕ) → i ≤ length d → length d ≤ i → out ≡ replicate i 0 ++ drop i d → out ≡ zeros d
-zeros_all i out d h l e =
-    let q : i ≡ length d = omega arith in
-    e ∙ rw (drop_of_length-le d l, append-nil, q)

@@ -3,3 +3,4 @@ pub mod Bound
 pub mod ByPlace
 pub mod Lent
 pub mod Front
+pub mod Methods

@@ -3,7 +3,7 @@
 
 pub mod chains;
 
-ghost use Rattle.std.specs.Prelude.{◌≡◌, length};
+ghost use Rattle.std.specs.Prelude.{◌≡◌};
 ghost use Rattle.paper.specs.Lists.{same_list};
 ghost use Rattle.marks.specs.Marks.{mark_of};
 
@@ -11,26 +11,17 @@ ghost use Rattle.marks.specs.Marks.{mark_of};
 pub fn mark(key: &[u8]) -> u32
     ensures { result ≡ mark_of key.now }
 {
-    let mut sum: usize = 0;
-    let mut i = 0;
-    while i < key.len() {
-        sum = (sum * 33 + key[i] as usize) % 4294967296;
-        i += 1;
+    let mut sum: u32 = 0;
+    for byte in key {
+        sum = sum.wrapping_mul(33).wrapping_add(u32::from(*byte));
     }
-    sum as u32
+    sum
 }
 
-// Whether two slices of one length hold the same bytes.
+// Whether two slices hold the same bytes: every comparison of keys, values and pairs goes by it.
+#[tactic(auto, using(lists::proofs::ByPlace::same_pointwise))]
 pub fn same(a: &[u8], b: &[u8]) -> bool
-    requires { length a.now ≡ length b.now }
     ensures { result ≡ same_list a.now b.now }
 {
-    let mut i = 0;
-    while i < a.len() {
-        if a[i] != b[i] {
-            return false;
-        }
-        i += 1;
-    }
-    true
+    a == b
 }

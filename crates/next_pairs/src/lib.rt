@@ -1,121 +1,66 @@
-// Inner: the pairs that a line asks for, looked up on the sheet. Each has a `requires`, so only proved code may call them.
+// Inner: the pairs that a line asks for, looked up on the sheet. Most have a `requires`, so only proved code may call them.
 #![tactic(auto)]
 
 ghost use Rattle.std.specs.Prelude.{◌≡◌, ◌+◌, ◌≤◌, ◌<◌, length};
 ghost use Rattle.paper.specs.Lists.{in_front};
-ghost use Rattle.paper.specs.Chart.{letters, start_vec};
-ghost use Rattle.paper.specs.Sheets.{on_sheet, grade_holds, next_holds};
-ghost use Rattle.cells.specs.Shaped.{Shaped};
-ghost use Rattle.lines.specs.Readable.{Readable, Indexed, pair_of, next_state, next_pair};
+ghost use Rattle.paper.specs.Chart.{n_of, letters, start_vec};
+ghost use Rattle.lines.specs.Held.{pair_held, grade_held, next_held, state_after, pair_after};
+ghost use Rattle.lines.specs.Readable.{pair_of};
 
-use index::on_sheet;
-use lines::{line_state, line_vector};
-use replies::Shape;
+use cells::Chart;
+use index::IndexedSheet;
+use lines::sheet::Sheet;
 use rows::{grade_at, next_at};
-use vectors::times::{end_grade, put_grades, row_times};
+use vectors::times::{end_grade, row_times};
 
 // Writes the start pair: state 0 and the chart's start vector.
-pub fn put_start(chart: &[u8], shape: Shape, out: &mut [u8])
-    requires { Shaped chart.now shape × (2 + shape.n ≤ length out.old) }
+pub fn put_start(chart: &Chart, out: &mut [u8])
+    requires { 2 + n_of chart.now ≤ length out.old }
     ensures { out.new ≡ in_front (pair_of 0 (start_vec chart.now)) out.old }
 {
-    out[0] = 0;
-    out[1] = 0;
-    put_grades(chart, shape, shape.start, &mut out[2..]);
+    out[..2].fill(0);
+    out[2..2 + chart.n()].copy_from_slice(chart.start());
 }
 
 // Writes line i's next pair by letter x: the table's next state, and the vector times the letter's matrix.
-pub fn put_next(
-    chart: &[u8],
-    shape: Shape,
-    rows: &[u8],
-    sheet: &[u8],
-    lines: usize,
-    i: usize,
-    x: usize,
-    out: &mut [u8],
-)
-    requires { Readable chart.now shape rows.now sheet.now lines × (i < lines) × (x < shape.letters) × (2 + shape.n ≤ length out.old) }
-    ensures { (out.new ≡ in_front (next_pair chart.now rows.now sheet.now i x) out.old) × (next_state chart.now rows.now sheet.now i x < 65536) }
+pub fn put_next(sheet: &Sheet, i: usize, x: usize, out: &mut [u8])
+    requires { (i < sheet.now.lines) × (x < letters sheet.now.chart.now) × (2 + n_of sheet.now.chart.now ≤ length out.old) }
+    ensures { (out.new ≡ in_front (pair_after sheet.now i x) out.old) × (state_after sheet.now i x < 65536) }
 {
-    let s = next_at(rows, shape.letters, line_state(chart, shape, sheet, i), x);
-    out[0] = (s / 256 % 256) as u8;
-    out[1] = (s % 256) as u8;
-    let v = line_vector(chart, shape, sheet, i);
-    row_times(chart, shape, x, v, &mut out[2..]);
+    let s = next_at(sheet.rows, sheet.chart.letters(), sheet.state(i), x);
+    out[..2].copy_from_slice(&(s as u16).to_be_bytes());
+    row_times(sheet.chart, x, sheet.vector(i), &mut out[2..]);
 }
 
+// The two below write a pair each into 26 bytes, the longest that a pair is: there is no heap. They differ in the pair.
+
 // Whether the start pair is on the sheet.
-pub fn start_holds(
-    chart: &[u8],
-    shape: Shape,
-    sheet: &[u8],
-    lines: usize,
-    heads: &[u16],
-    links: &[u16],
-    marks: &[u32],
-) -> bool
-    requires { Indexed chart.now shape sheet.now lines heads.now links.now marks.now }
-    ensures { result ≡ on_sheet chart.now sheet.now lines 0 (start_vec chart.now) }
+pub fn start_holds(indexed: &IndexedSheet) -> bool
+    ensures { result ≡ pair_held indexed.now.sheet 0 (start_vec indexed.now.sheet.chart.now) }
 {
-    let mut first = [0u8; 26];
-    put_start(chart, shape, &mut first);
-    let size = 2 + shape.n;
-    on_sheet(
-        chart,
-        shape,
-        sheet,
-        lines,
-        heads,
-        links,
-        marks,
-        &first[..size],
-    )
+    let chart = indexed.sheet.chart;
+    let size = 2 + chart.n();
+    let mut first = [0; 26];
+    put_start(chart, &mut first);
+    indexed.holds(&first[..size])
 }
 
 // Whether line i's table grade is that of its vector.
-pub fn grade_holds(
-    chart: &[u8],
-    shape: Shape,
-    rows: &[u8],
-    sheet: &[u8],
-    lines: usize,
-    i: usize,
-) -> bool
-    requires { Readable chart.now shape rows.now sheet.now lines × (i < lines) }
-    ensures { result ≡ grade_holds chart.now rows.now sheet.now i }
+pub fn grade_holds(sheet: &Sheet, i: usize) -> bool
+    requires { i < sheet.now.lines }
+    ensures { result ≡ grade_held sheet.now i }
 {
-    let grade = grade_at(rows, shape.letters, line_state(chart, shape, sheet, i));
-    grade == end_grade(chart, shape, line_vector(chart, shape, sheet, i))
+    let grade = grade_at(sheet.rows, sheet.chart.letters(), sheet.state(i));
+    grade == end_grade(sheet.chart, sheet.vector(i))
 }
 
 // Whether line i's next pair by letter x is on the sheet.
-pub fn next_holds(
-    chart: &[u8],
-    shape: Shape,
-    rows: &[u8],
-    sheet: &[u8],
-    lines: usize,
-    heads: &[u16],
-    links: &[u16],
-    marks: &[u32],
-    i: usize,
-    x: usize,
-) -> bool
-    requires { Readable chart.now shape rows.now sheet.now lines × Indexed chart.now shape sheet.now lines heads.now links.now marks.now × (i < lines) × (x < shape.letters) }
-    ensures { result ≡ next_holds chart.now rows.now sheet.now lines i x }
+pub fn next_holds(indexed: &IndexedSheet, i: usize, x: usize) -> bool
+    requires { (i < indexed.now.sheet.lines) × (x < letters indexed.now.sheet.chart.now) }
+    ensures { result ≡ next_held indexed.now.sheet i x }
 {
-    let mut next = [0u8; 26];
-    put_next(chart, shape, rows, sheet, lines, i, x, &mut next);
-    let size = 2 + shape.n;
-    on_sheet(
-        chart,
-        shape,
-        sheet,
-        lines,
-        heads,
-        links,
-        marks,
-        &next[..size],
-    )
+    let size = 2 + indexed.sheet.chart.n();
+    let mut next = [0; 26];
+    put_next(&indexed.sheet, i, x, &mut next);
+    indexed.holds(&next[..size])
 }

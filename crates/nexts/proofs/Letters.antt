@@ -6,6 +6,7 @@ use native.Mathlib.Numerals.{add-one}
 use native.Mathlib.Omega.{arith}
 use lib.ListN.{length}
 use Rattle.paper.specs.Lists.{joined, in_front}
+use Rattle.paper.specs.Chart.{letters}
 use Rattle.paper.specs.Tables.{two_bytes, row_size}
 use Rattle.paper.specs.Numbering.{place, expanded}
 use Rattle.paper.specs.Constructions.{Construction}
@@ -16,10 +17,11 @@ use Rattle.numbering.proofs.Kept.{expanded_suc, expanded_more}
 use Rattle.places.proofs.Search.{length_values}
 use Rattle.kinds.specs.Kinds.{made}
 use Rattle.places.specs.Memory.{spliced, Apart}
-use Rattle.search.specs.Kept.{kept_in, Index, Holds}
+use Rattle.marks.specs.declared.chains.Index.{Index}
+use Rattle.search.specs.Kept.{kept_in, Holds}
 use Rattle.settle.specs.Settles.{Settles, Asks}
 use Rattle.nexts.specs.Taken.{grown, found_bytes, nexts_for, row_for, Taken}
-use Rattle.kinds.specs.declared.Plan.{Plan}
+use Rattle.kinds.specs.declared.plan.Plan.{Plan}
 use Rattle.places.proofs.Memory.{in_front_splice, apart_refl, apart_trans}
 
 length_found : (b : Construction) (vs : List (List ℕ)) (v : List ℕ) (x : ℕ) → length (found_bytes b vs v x) ≡ 2
@@ -37,58 +39,51 @@ length_row_for b m vs v = omega (arith, length_pairs b vs v m)
 -- ---- the letters
 
 -- the letters below x taken, with `held` states kept in `new`, from `first` in `old`
-pub record NextsTo (p : Plan) (c t : List ℕ) (first : ℕ) (v row₀ row old new : List ℕ) (index : Index) (held x : ℕ) : Type 0 where
-  pub turn : x ≤ p.shape.letters
+pub record NextsTo (p : Plan) (first : ℕ) (v row₀ row old new : List ℕ) (index : Index) (held x : ℕ) : Type 0 where
   pub roomy : held ≤ p.room
-  pub row_long : length row ≡ length row₀
-  pub listed : kept_in p held new ≡ expanded (made p c t).key (made p c t).step x v (kept_in p first old)
-  pub holds : Holds c p new index held
+  pub listed : kept_in p held new ≡ expanded (made p).key (made p).step x v (kept_in p first old)
+  pub holds : Holds p new index held
   pub apart : Apart p.stride p.width (suc p.room) old new
-  pub row_is : row ≡ in_front (joined x (found_bytes (made p c t) (kept_in p first old) v)) row₀
+  pub row_is : row ≡ in_front (joined x (found_bytes (made p) (kept_in p first old) v)) row₀
 
-module _ (p : Plan) (c t : List ℕ) (first : ℕ) (v row₀ old : List ℕ) where
-  pub nexts_none : (index : Index) → Asks p c t first v old index → NextsTo p c t first v row₀ row₀ old old index first 0
+module _ (p : Plan) (first : ℕ) (v row₀ old : List ℕ) where
+  pub nexts_none : (index : Index) → Asks p first v old index → NextsTo p first v row₀ row₀ old old index first 0
   unfolding expanded joined
   nexts_none index a =
-      record { turn = omega arith; roomy = a.roomy; row_long = refl; listed = refl; holds = a.holds; apart = apart_refl _ _ _ _; row_is = in_front_none row₀ }
+      record { roomy = a.roomy; listed = refl; holds = a.holds; apart = apart_refl _ _ _ _; row_is = in_front_none row₀ }
 
-  module _ {row new : List ℕ} {index : Index} {held x : ℕ} (so : NextsTo p c t first v row₀ row old new index held x) where
-    pub nexts_asks : {index₀ : Index} → Asks p c t first v old index₀ → Asks p c t held v new index
-    nexts_asks a = record { ready = a.ready; roomy = so.roomy; value = a.value; holds = so.holds }
-
-    module _ {new' : List ℕ} {index' : Index} {at more : ℕ} (h : x < p.shape.letters) (s : Settles p c t x v new new' index' held at more) where
+  module _ {row new : List ℕ} {index : Index} {held x : ℕ} (so : NextsTo p first v row₀ row old new index held x) where
+    module _ {new' : List ℕ} {index' : Index} {at more : ℕ} (h : x < letters p.chart.now) (s : Settles p x v new new' index' held at more) where
       -- the list with letter x's value kept
-      listed_more : kept_in p more new' ≡ expanded (made p c t).key (made p c t).step (suc x) v (kept_in p first old)
-      listed_more = s.kept_is ∙ rw so.listed (sym (expanded_suc (made p c t).key (made p c t).step v (kept_in p first old) x))
+      listed_more : kept_in p more new' ≡ expanded (made p).key (made p).step (suc x) v (kept_in p first old)
+      listed_more = s.kept_is ∙ rw so.listed (sym (expanded_suc (made p).key (made p).step v (kept_in p first old) x))
 
-      pair_is : two_bytes at ≡ found_bytes (made p c t) (kept_in p first old) v x
+      pair_is : two_bytes at ≡ found_bytes (made p) (kept_in p first old) v x
       unfolding found_bytes
-      pair_is = ap two_bytes (s.place_is ∙ ap (λ (vs : List (List ℕ)). place (made p c t).key vs ((made p c t).step x v)) so.listed)
+      pair_is = ap two_bytes (s.place_is ∙ ap (λ (vs : List (List ℕ)). place (made p).key vs ((made p).step x v)) so.listed)
 
       -- the states that are kept are all listed in the end
-      pub nexts_full : p.room < more → p.room < length (grown p c t first v old)
+      pub nexts_full : p.room < more → p.room < length (grown p first v old)
       nexts_full r =
           omega (
             arith,
             ap length listed_more,
             length_values p.stride p.width more new',
-            extends_length (expanded_more (made p c t).key (made p c t).step v (kept_in p first old) (suc x) p.shape.letters h),
+            extends_length (expanded_more (made p).key (made p).step v (kept_in p first old) (suc x) (letters p.chart.now) h),
           )
 
-      pub nexts_more : more ≤ p.room → {row' : List ℕ} → length row' ≡ length row → row' ≡ spliced (2 * x) (two_bytes at) row →
-          NextsTo p c t first v row₀ row' old new' index' more (x + 1)
+      pub nexts_more : more ≤ p.room → {row' : List ℕ} → row' ≡ spliced (2 * x) (two_bytes at) row →
+          NextsTo p first v row₀ row' old new' index' more (x + 1)
       unfolding joined
-      nexts_more r lr w =
+      nexts_more r w =
           record {
-            turn = omega arith;
             roomy = r;
-            row_long = lr ∙ so.row_long;
             listed = rw add-one listed_more;
             holds = s.holds;
             apart = apart_trans so.apart s.apart;
             row_is = rw add-one (w ∙ in_front_splice _ row₀ (two_bytes at) row (2 * x) so.row_is (length_pairs _ _ v x) ∙ rw pair_is);
           }
 
-    pub nexts_all : x ≡ p.shape.letters → Taken p c t first v (in_front (nexts_for (made p c t) p.shape.letters (kept_in p first old) v) row₀) row old new index held
+    pub nexts_all : x ≡ letters p.chart.now → Taken p first v (in_front (nexts_for (made p) (letters p.chart.now) (kept_in p first old) v) row₀) row old new index held
     unfolding nexts_for
-    nexts_all e = record { roomy = so.roomy; listed = so.listed ∙ ap (λ y. expanded (made p c t).key (made p c t).step y v (kept_in p first old)) e; holds = so.holds; apart = so.apart; row_is = so.row_is ∙ ap (λ y. in_front (joined y (found_bytes (made p c t) (kept_in p first old) v)) row₀) e }
+    nexts_all e = record { roomy = so.roomy; listed = so.listed ∙ ap (λ y. expanded (made p).key (made p).step y v (kept_in p first old)) e; holds = so.holds; apart = so.apart; row_is = so.row_is ∙ ap (λ y. in_front (joined y (found_bytes (made p) (kept_in p first old) v)) row₀) e }

@@ -3,11 +3,11 @@ use mathlib.Core.Path.{◌≡◌, refl, sym, ap, ◌∙◌}
 use mathlib.Core.List.{List, [], ◌∷◌, ◌++◌, append_assoc, append-nil}
 use Prim.Native.Nat.{ℕ, zero, suc, ◌+◌, ◌-◌, ◌*◌, ◌≤◌, ◌<◌}
 use native.Mathlib.Nat.{zero-mul, suc-mul, mul-le-mul_right, le_refl}
-use native.Mathlib.Numerals.{add-one, add-two}
+use native.Mathlib.Numerals.{add-one}
 use native.Mathlib.Omega.{arith}
 use native.Mathlib.Decide.{dec_lt}
-use lib.ListN.{length, get_or, take, drop, set, length-append, length-take, length-drop, get_or-append, drop_of_length-le}
-use lib.Seq.{take-add, take-suc, take-suc-set, set_split, set_at, drop-cons, append_snoc, take_at, drop_at, take_all, drop-drop, length-take-le, drop-append-add, get_or-take, get_or-drop, ext_get_or}
+use lib.ListN.{length, get_or, take, drop, length-append, length-take, length-drop, get_or-append, drop_of_length-le}
+use lib.Seq.{take-add, take_at, drop_at, take_all, drop-drop, length-take-le, drop-append-add, get_or-take, get_or-drop, ext_get_or}
 use borrow.Rule.Slice.PartMut.{put_mid}
 use Rattle.paper.specs.Lists.{tabulate, in_front, joined, part}
 use Rattle.lists.proofs.ByPlace.{tabulate_cong}
@@ -45,14 +45,6 @@ pub get_or_behind : (a : ℕ) (new old : List ℕ) (i : ℕ) → a + length new 
 get_or_behind a new old i h l =
     let q : i ≡ i + 0 = omega arith in
     ap (λ k. get_or (spliced a new old) k 0) q ∙ sym (get_or-drop i (spliced a new old) 0 0) ∙ ap (λ xs. get_or xs 0 0) (drop_spliced a new old i h l) ∙ get_or-drop i old 0 0 ∙ ap (λ k. get_or old k 0) (sym q)
-
--- two bytes written, one after the other
-pub set_two : (row : List ℕ) (at a b : ℕ) → at + 2 ≤ length row → set (set row at a) (at + 1) b ≡ spliced at (a ∷ b ∷ []) row
-unfolding spliced
-set_two row at a b h =
-    let l : at < length row = omega arith in
-    let l' : suc at < length row = omega arith in
-    rw (set_split row at a l, drop-cons row (suc at) 0 l', ← append_snoc (take at row) a, set_at (take at row ++ (a ∷ [])) _ _ b (at + 1) (rw (length-append, length-take-le at row (omega arith))), append_snoc, add-two)
 
 drop_past : (xs ys : List ℕ) (n k : ℕ) → length xs ≡ k → drop (k + n) (xs ++ ys) ≡ drop n ys
 drop_past xs ys n k e = rw (← e) (drop-append-add xs ys n)
@@ -123,15 +115,6 @@ apart_refl stride w places xs = record { long = refl; rest = λ s j a b. refl; p
 
 pub apart_trans : {stride w places : ℕ} {xs ys zs : List ℕ} → Apart stride w places xs ys → Apart stride w places ys zs → Apart stride w places xs zs
 apart_trans a b = record { long = b.long ∙ a.long; rest = λ s j h l. b.rest s j h l ∙ a.rest s j h l; past = b.past ∙ a.past }
-
--- ---- copying
-
--- one byte more of what stands from a place on
-pub copy_more : (copy xs : List ℕ) (from j : ℕ) {a : ℕ} → j < length copy → from + j < length xs → take j copy ≡ take j (drop from xs) → a ≡ get_or xs (from + j) 0 →
-    take (j + 1) (set copy j a) ≡ take (j + 1) (drop from xs)
-copy_more copy xs from j h l e f =
-    let l' : j < length (drop from xs) = rw length-drop (omega arith) in
-    rw (add-one, f, take-suc-set copy j _ h, e, take-suc (drop from xs) j 0 l', get_or-drop)
 
 -- ---- parts
 

@@ -1,4 +1,5 @@
 -- What a search answers, values in their places, and the vector behind a state. Assumes nothing.
+use Rattle.std.specs.Prelude.{Option, Some, None, MatchOption}
 use mathlib.Core.Path.{◌≡◌, refl, ◌∙◌}
 use mathlib.Core.Bool.{Bool, true, false}
 use mathlib.Core.List.{List, []}
@@ -13,28 +14,32 @@ use Rattle.paper.specs.Builders.{vector_at}
 use Rattle.lists.proofs.Tests.{both_false}
 use Rattle.lists.proofs.ByPlace.{length_tabulate, get_or_tabulate}
 use Rattle.places.specs.Search.{place_at, values, place_for}
-use Rattle.places.specs.declared.Place.{Place}
 
 -- ---- the answer of a search, from the place that it came to and back
 
-pub answered_at : (n j i : ℕ) → j ≡ i → i < n → Place.At i ≡ place_for n j
+pub answered_at : (n j i : ℕ) → j ≡ i → i < n → Some i ≡ place_for n j
 answered_at n j i q l = simp (q, lt-ltb i n l)
 
-pub answered_none : (n j : ℕ) → j ≡ n → Place.Nowhere ≡ place_for n j
+pub answered_none : (n j : ℕ) → j ≡ n → None ≡ place_for n j
 answered_none n j q = simp (q, le-ltb n n (omega arith))
 
+-- the same, of an answer that is told by its cases
+pub answered : (n j : ℕ) (r : Option ℕ) → MatchOption r (j ≡ n) (λ i. (i < n) × (j ≡ i)) → r ≡ place_for n j
+answered n j None h = answered_none n j h
+answered n j (Some i) h = answered_at n j i h.1 h.0
+
 module _ (n j : ℕ) where
-  pub answer_at : (i : ℕ) → place_for n j ≡ Place.At i → (j < n) × (j ≡ i)
+  pub answer_at : (i : ℕ) → place_for n j ≡ Some i → (j < n) × (j ≡ i)
   answer_at i h = go (ltb j n) refl h
     where
-      go : (b : Bool) → ltb j n ≡ b → pick b (Place.At j) Place.Nowhere ≡ Place.At i → (j < n) × (j ≡ i)
+      go : (b : Bool) → ltb j n ≡ b → pick b (Some j) None ≡ Some i → (j < n) × (j ≡ i)
       go true q k = (ltb-true j n q, cc)
       go false q k = let z : ◌≡◌ {A = ℕ} 0 1 = cc in absurd (omega arith)
 
-  pub answer_none : place_for n j ≡ Place.Nowhere → n ≤ j
+  pub answer_none : place_for n j ≡ None → n ≤ j
   answer_none h = go (ltb j n) refl h
     where
-      go : (b : Bool) → ltb j n ≡ b → pick b (Place.At j) Place.Nowhere ≡ Place.Nowhere → n ≤ j
+      go : (b : Bool) → ltb j n ≡ b → pick b (Some j) None ≡ None → n ≤ j
       go true q k = let z : ◌≡◌ {A = ℕ} 0 1 = cc in absurd (omega arith)
       go false q k = ltb-false j n q
 

@@ -1,18 +1,11 @@
-// Where a search ended, and the vector behind a state.
+// What a search answers (specs/), and the vector behind a state.
 #![tactic(auto)]
 
 ghost use Rattle.std.specs.Prelude.{◌≡◌, ◌+◌, ◌*◌};
 ghost use Rattle.paper.specs.Builders.{vector_at};
 
-// Where an equal value stands: the first such place, or none.
-#[derive(Clone, Copy)]
-pub enum Place {
-    At(usize),
-    Nowhere,
-}
-
 // The vector behind a state: the part of the caller's bytes that holds it. It is empty where the state is not below the count, or its place is
-// not whole.
+// not whole: document 01 says so, and refuses nothing here.
 pub fn vector_at(vectors: &[u8], n: usize, count: usize, state: usize) -> &[u8]
     ensures { result.now ≡ vector_at vectors.now n count state }
 {

@@ -8,16 +8,14 @@ use lib.Dec.{leb}
 use lib.ListN.{length, length-append, length-take, length-drop}
 use borrow.Author.Tests.{leb-true}
 use borrow.Rule.Slice.PartMut.{mid_of, put_mid}
-use Rattle.replies.specs.declared.Checked.{Checked}
+use Rattle.std.specs.Prelude.{Ok, Err}
 use Rattle.replies.specs.declared.Refusal.{Refusal}
-use Rattle.replies.specs.declared.Shape.{Shape}
 use Rattle.paper.specs.Lists.{joined, in_front}
-use Rattle.replies.specs.Replies.{said, checked_said}
-use Rattle.paper.specs.Check.{check_reply}
+use Rattle.replies.specs.Replies.{said}
 use Rattle.paper.specs.Tables.{two_bytes, row_size, table_fits_chart, cap_of}
 use Rattle.pages.specs.Frames.{frame, line_length}
 use Rattle.pages.specs.Texts.{Filled, printed, row_line, table_text, table_text_size, print_table}
-use Rattle.chart.proofs.Checked.{shaped, fits_fine, fits_refused}
+use Rattle.chart.specs.Opened.{Opened}
 use Rattle.rows.proofs.Rows.{size_parts}
 use Rattle.card.proofs.Caps.{size_beside}
 use Rattle.row_lines.specs.RowsIn.{RowsIn}
@@ -32,7 +30,7 @@ use Rattle.row_lines.proofs.RowLines.{length_rows}
 unfoldable pub rows_text : List ℕ → ℕ → ℕ → List ℕ
 rows_text rows count m = frame 0x11 (count / 256 % 256 ∷ count % 256 ∷ m ∷ []) ++ joined count (row_line rows m)
 
-module _ {c : List ℕ} {s : Shape} {rows : List ℕ} {count m : ℕ} {old : List ℕ} (h : TableIn c s rows count m old) where
+module _ {c rows : List ℕ} {count m : ℕ} {old : List ℕ} (h : TableIn c rows count m old) where
   parts : (1 ≤ count) × (count ≤ 4096) × (1 ≤ m) × (m ≤ 16) × (count * row_size m ≤ length rows)
   parts = size_parts rows count m (size_beside h.beside)
 
@@ -75,26 +73,26 @@ module _ {c : List ℕ} {s : Shape} {rows : List ℕ} {count m : ℕ} {old : Lis
         front = rw (whole cap cap_is) (front_more (rows_text rows count m) (frame 0x13 (cap ∷ [])) old buf lent (13 + count * (9 + 4 * m)) (sym length_text) e p);
       }
 
--- ---- the answer
-module _ (c rows : List ℕ) (count m : ℕ) (old : List ℕ) (a : Checked) (reply : checked_said a ≡ check_reply c) where
-  pub print_refused : (why : Refusal) → a ≡ Checked.Refused why → ◌≡◌ {A = Filled} (record { reply = said why; buffer = old }) (print_table c rows count m old)
+-- ---- the answer, where the chart was opened
+module _ (c rows : List ℕ) (count m : ℕ) (old : List ℕ) where
+  pub print_refused : (why : Refusal) → Opened c (Err why) → ◌≡◌ {A = Filled} (record { reply = said why; buffer = old }) (print_table c rows count m old)
   unfolding print_table
-  print_refused why e = rw (fits_refused c reply e, ← reply, e)
+  print_refused why e = rw (e.0, ← e.1)
 
-  module _ (s : Shape) (e : a ≡ Checked.Fine s) where
+  module _ {v : List ℕ} (e : Opened c (Ok v)) where
     pub print_room : leb (table_text_size count m) (length old) ≡ false → ◌≡◌ {A = Filled} (record { reply = (5, []); buffer = old }) (print_table c rows count m old)
     unfolding print_table
-    print_room f = rw (fits_fine c reply e, f)
+    print_room f = rw (e.0, f)
 
     module _ (room : leb (table_text_size count m) (length old) ≡ true) where
-      pub print_bad : table_fits_chart c rows count m ≡ false → ◌≡◌ {A = Filled} (record { reply = (9, []); buffer = old }) (print_table c rows count m old)
+      pub print_bad : table_fits_chart v rows count m ≡ false → ◌≡◌ {A = Filled} (record { reply = (9, []); buffer = old }) (print_table c rows count m old)
       unfolding print_table
-      print_bad f = rw (fits_fine c reply e, room, f)
+      print_bad f = rw (e.0, room, ← e.1, f)
 
-      module _ (f : table_fits_chart c rows count m ≡ true) where
-        pub table_in : TableIn c s rows count m old
-        table_in = record { beside = record { shaped = shaped c reply e; fits = f }; room = leb-true (table_text_size count m) (length old) room }
+      module _ (f : table_fits_chart v rows count m ≡ true) where
+        pub table_in : TableIn v rows count m old
+        table_in = record { beside = record { fits = f }; room = leb-true (table_text_size count m) (length old) room }
 
-        pub print_done : (size : ℕ) (new : List ℕ) → TablePut (table_text c rows count m) old new size → ◌≡◌ {A = Filled} (record { reply = (0, size ∷ []); buffer = new }) (print_table c rows count m old)
+        pub print_done : (size : ℕ) (new : List ℕ) → TablePut (table_text v rows count m) old new size → ◌≡◌ {A = Filled} (record { reply = (0, size ∷ []); buffer = new }) (print_table c rows count m old)
         unfolding print_table printed
-        print_done size new p = rw (fits_fine c reply e, room, f, p.size_is, p.front)
+        print_done size new p = rw (e.0, room, ← e.1, f, p.size_is, p.front)

@@ -7,52 +7,45 @@ ghost use Rattle.pages.specs.Texts.{Filled, table_text, print_table};
 ghost use Rattle.printing.specs.Printing.{TableIn, TablePut};
 
 use card::inner::{cap_of, table_fits_chart};
-use chart::check;
+use cells::Chart;
+use chart::open;
 use frames::put_frame;
-use replies::{Checked, Refusal, Shape, Written};
+use replies::Refusal;
 use row_lines::{put_rows, text_fits};
 
 // The cap's line has so many bytes.
 const CAP_LINE: usize = 9;
 
 // A table beside its chart, to the front of a buffer: the count and m, one line a state, the cap.
-fn put_table(
-    chart: &[u8],
-    shape: Shape,
-    rows: &[u8],
-    count: usize,
-    m: usize,
-    text: &mut [u8],
-) -> usize
-    requires { TableIn chart.now shape rows.now count m text.old }
+fn put_table(chart: &Chart, rows: &[u8], count: usize, m: usize, text: &mut [u8]) -> usize
+    requires { TableIn chart.now rows.now count m text.old }
     ensures { TablePut (table_text chart.now rows.now count m) text.old text.new result }
 {
-    let high = (count / 256 % 256) as u8;
-    let low = (count % 256) as u8;
-    let letters = m as u8;
-    let sizes = [high, low, letters];
-    put_frame(0x11, &sizes, text);
+    let [.., high, low] = count.to_be_bytes();
+    put_frame(0x11, &[high, low, m as u8], text);
     put_rows(rows, count, m, &mut text[13..]);
-    let cap = [cap_of(chart, shape, rows, count, m)];
+    let cap = cap_of(chart, rows, count, m);
     let at = 13 + count * (9 + 4 * m);
-    put_frame(0x13, &cap, &mut text[at..]);
+    put_frame(0x13, &[cap], &mut text[at..]);
     at + CAP_LINE
 }
 
 // A table beside its chart, with its cap.
-pub fn print_table(chart: &[u8], rows: &[u8], count: usize, m: usize, text: &mut [u8]) -> Written
+pub fn print_table(
+    chart: &[u8],
+    rows: &[u8],
+    count: usize,
+    m: usize,
+    text: &mut [u8],
+) -> Result<usize, Refusal>
     ensures { ◌≡◌ {A = Filled} (record { reply = written_said result; buffer = text.new }) (print_table chart.now rows.now count m text.old) }
 {
-    match check(chart) {
-        Checked::Refused(why) => Written::Refused(why),
-        Checked::Fine(shape) => {
-            if !text_fits(count, m, text.len()) {
-                return Written::Refused(Refusal::Room);
-            }
-            if !table_fits_chart(chart, shape, rows, count, m) {
-                return Written::Refused(Refusal::Table);
-            }
-            Written::Bytes(put_table(chart, shape, rows, count, m, text))
-        }
+    let chart = open(chart)?;
+    if !text_fits(count, m, text.len()) {
+        return Err(Refusal::Room);
     }
+    if !table_fits_chart(&chart, rows, count, m) {
+        return Err(Refusal::Table);
+    }
+    Ok(put_table(&chart, rows, count, m, text))
 }

@@ -4,7 +4,7 @@ use mathlib.Core.List.{List}
 use Prim.Native.Nat.{ℕ, ◌≤◌}
 use Rattle.paper.specs.Reply.{Reply}
 use Rattle.replies.specs.Replies.{verdict_said}
-use Rattle.replies.specs.declared.Verdict.{Verdict}
+use Rattle.replies.specs.Replies.{accepted as yes}
 use Rattle.paper.specs.Chart.{letters}
 use Rattle.paper.specs.Builders.{Forward, Backward, nerode, reduced}
 use Rattle.paper.specs.Constructions.{Construction, nerode_by, reduced_by}
@@ -53,7 +53,7 @@ sheet_accepts_true c rows count m sheet lines r e a u w =
 
 pub sheet_accepts_honest : AcceptsHonest
 sheet_accepts_honest c rows count m sheet lines r e right honest =
-    verdict_one r Verdict.Accepted (e ∙ sheet_complete c rows count m sheet lines right honest)
+    verdict_one r yes (e ∙ sheet_complete c rows count m sheet lines right honest)
 
 pub sheet_accepts_no_false : AcceptsNoFalse
 sheet_accepts_no_false c rows count m sheet lines r e u w differ a = differ (sheet_accepts_true c rows count m sheet lines r e a u w)

@@ -1,29 +1,28 @@
 -- A whole text: its head, the lines behind it, and the chart that they make. Assumes nothing.
-use mathlib.Core.Path.{◌≡◌, sym, ap, ◌∙◌, subst}
-use mathlib.Core.Bool.{true, false}
+use mathlib.Core.Path.{◌≡◌, refl, sym, ap, ◌∙◌, subst}
+use mathlib.Core.Bool.{true, false, false≢true}
 use mathlib.Core.List.{List, [], ◌∷◌}
 use Prim.Native.Nat.{ℕ, ◌≤◌, ◌<◌}
 use native.Mathlib.Omega.{arith}
+use Rattle.std.specs.Result.{is_err}
+use Rattle.std.specs.Prelude.{Some, Result, Ok, Err}
 use lib.ListN.{length, get_or, take, drop, length-append, get_or-append}
 use lib.Seq.{take_at}
 use borrow.Author.Tests.{le-leb, lt-leb}
-use Rattle.replies.specs.declared.Checked.{Checked}
 use Rattle.replies.specs.declared.Refusal.{Refusal}
 use Rattle.replies.specs.declared.Shape.{Shape}
-use Rattle.replies.specs.declared.Written.{Written}
 use Rattle.paper.specs.Lists.{in_front, zeros}
 use Rattle.replies.specs.Replies.{said, checked_said, written_said}
 use Rattle.paper.specs.Chart.{head_size}
 use Rattle.paper.specs.Check.{sizes_fit, head_fits, check_reply}
 use Rattle.pages.specs.Frames.{payload, frame_fits}
-use Rattle.pages.specs.Texts.{Filled, Lines, bad_line, bad_head, width_of, dues, lines_after, text_most, chart_most, lines_of_text, chart_read, lines_read, read_chart}
+use Rattle.pages.specs.Texts.{Filled, Lines, bad_line, bad_head, chart, width_of, dues, lines_after, text_most, chart_most, lines_of_text, chart_read, lines_read, read_chart}
 use Rattle.chart.proofs.Ranges.{sizes_are}
 use Rattle.chart.proofs.Checked.{shaped, fits_fine, fits_refused}
 use Rattle.dues.specs.declared.Counts.{Counts}
 use Rattle.dues.specs.declared.Rule.{Rule}
-use Rattle.rest_lines.specs.declared.Frames.{Frames}
 use Rattle.dues.specs.Dues.{Ruled}
-use Rattle.rest_lines.specs.Reading.{RestIn, rest_lines, ChartRead, LinesSay}
+use Rattle.rest_lines.specs.Reading.{RestIn, rest_lines, ChartRead, refused_by, LinesSay}
 use Rattle.reading.specs.Zeroed.{zeroed_by}
 use Rattle.lists.proofs.Lent.{length_in_front}
 use Rattle.lists.proofs.Front.{front_front}
@@ -105,8 +104,8 @@ module _ {text old buf : List ℕ} (r : HeadRead text old buf) where
           (sym (rw (byte 0 k (omega arith) ek, byte 2 n (omega arith) en, byte 3 m (omega arith) em, r.front, take_at head (drop (length head) old) head_size length_head))))
 
       -- and say what the text comes to
-      pub rest_says : (new : List ℕ) (a : Frames) → LinesSay (rest_lines text (record { k = k; n = n; m = m }) buf) buf new a → LinesSay (lines_of_text text) old new a
-      rest_says new (Frames.Chart size) h =
+      pub rest_says : (new : List ℕ) (a : Result ℕ Refusal) → LinesSay (rest_lines text (record { k = k; n = n; m = m }) buf) buf new a → LinesSay (lines_of_text text) old new a
+      rest_says new (Ok size) h =
           record {
             bytes = h.bytes;
             lines_are = sym rest_is ∙ h.lines_are;
@@ -117,28 +116,28 @@ module _ {text old buf : List ℕ} (r : HeadRead text old buf) where
                 ∙ ap (λ (b : List ℕ). in_front h.bytes b) r.front
                 ∙ front_front h.bytes (payload head_size text 0) old (omega (arith, h.headed, h.size_is, length_payload head_size text 0));
           }
-      rest_says new (Frames.BadLine line) h = sym rest_is ∙ h
-      rest_says new Frames.BadHead h = sym rest_is ∙ h
+      rest_says new (Err why) h = ap refused_by (sym rest_is) ∙ h
 
 -- ---- the chart that was read
 
 -- what lines that were read answer, the buffer being zeroed by a refusal
-module _ (lines : Lines) (old new : List ℕ) (kept : length new ≡ length old) (a : Frames) (says : LinesSay lines old new a) where
+module _ (lines : Lines) (old new : List ℕ) (kept : length new ≡ length old) (a : Result ℕ Refusal) (says : LinesSay lines old new a) where
   zeroed : zeros new ≡ zeros old
   zeroed = rw kept
 
-  said_as : {b : Frames} → a ≡ b → LinesSay lines old new b
+  said_as : {b : Result ℕ Refusal} → a ≡ b → LinesSay lines old new b
   said_as e = subst (λ f. LinesSay lines old new f) e says
 
-  pub whole_line : (line : ℕ) → a ≡ Frames.BadLine line → ◌≡◌ {A = Filled} (record { reply = (14, line ∷ []); buffer = zeros new }) (lines_read lines old)
+  pub whole_none : (why : Refusal) → a ≡ Err why → ◌≡◌ {A = Filled} (record { reply = said why; buffer = zeros new }) (lines_read lines old)
   unfolding lines_read
-  whole_line line e = let q : lines ≡ bad_line line = said_as e in rw (q, zeroed)
+  whole_none why e = rw zeroed (go lines (said_as e))
+    where
+      go : (l : Lines) → refused_by l ≡ Some why → ◌≡◌ {A = Filled} (record { reply = said why; buffer = zeros old }) (lines_read l old)
+      go (bad_line line) q = let w : Refusal.Text line ≡ why = cc in rw (← w) refl
+      go bad_head q = let w : Refusal.Sizes ≡ why = cc in rw (← w) refl
+      go (chart bytes) q = absurd (cc)
 
-  pub whole_head : a ≡ Frames.BadHead → ◌≡◌ {A = Filled} (record { reply = (1, []); buffer = zeros new }) (lines_read lines old)
-  unfolding lines_read
-  whole_head e = let q : lines ≡ bad_head = said_as e in rw (q, zeroed)
-
-  module _ (size : ℕ) (e : a ≡ Frames.Chart size) where
+  module _ (size : ℕ) (e : a ≡ Ok size) where
     read : ChartRead lines old new size
     read = said_as e
 
@@ -146,7 +145,7 @@ module _ (lines : Lines) (old new : List ℕ) (kept : length new ≡ length old)
     unfolding in_front
     size_inside = omega (arith, read.size_is, ap length read.front, length-append read.bytes (drop (length read.bytes) old))
 
-    module _ (r : Checked) (reply : checked_said r ≡ check_reply (take size new)) where
+    module _ (r : Result Shape Refusal) (reply : checked_said r ≡ check_reply (take size new)) where
       bytes_are : take size new ≡ read.bytes
       unfolding in_front
       bytes_are = ap (λ (b : List ℕ). take size b) read.front ∙ take_at read.bytes (drop (length read.bytes) old) size (sym read.size_is)
@@ -154,11 +153,11 @@ module _ (lines : Lines) (old new : List ℕ) (kept : length new ≡ length old)
       checked : checked_said r ≡ check_reply read.bytes
       checked = reply ∙ ap check_reply bytes_are
 
-      pub whole_fine : (s : Shape) → r ≡ Checked.Fine s → ◌≡◌ {A = Filled} (record { reply = (0, s.size ∷ []); buffer = new }) (lines_read lines old)
+      pub whole_fine : (s : Shape) → r ≡ Ok s → ◌≡◌ {A = Filled} (record { reply = (0, s.size ∷ []); buffer = new }) (lines_read lines old)
       unfolding lines_read chart_read
       whole_fine s f = rw (read.lines_are, fits_fine read.bytes checked f, (shaped read.bytes checked f).size_is, ← read.front)
 
-      pub whole_refused : (why : Refusal) → r ≡ Checked.Refused why → ◌≡◌ {A = Filled} (record { reply = said why; buffer = zeros new }) (lines_read lines old)
+      pub whole_refused : (why : Refusal) → r ≡ Err why → ◌≡◌ {A = Filled} (record { reply = said why; buffer = zeros new }) (lines_read lines old)
       unfolding lines_read chart_read
       whole_refused why f = rw (read.lines_are, fits_refused read.bytes checked f, ← checked, f, zeroed)
 
@@ -168,13 +167,22 @@ module _ (text old : List ℕ) where
   unfolding read_chart
   short_read h = simp (lt-leb chart_most (length old) h)
 
-  module _ (room : chart_most ≤ length old) (a : Written) (new : List ℕ) (says : ◌≡◌ {A = Filled} (record { reply = written_said a; buffer = zeroed_by a new }) (lines_read (lines_of_text text) old)) where
+  module _ (room : chart_most ≤ length old) (a : Result ℕ Refusal) (new : List ℕ) (says : ◌≡◌ {A = Filled} (record { reply = written_said a; buffer = zeroed_by a new }) (lines_read (lines_of_text text) old)) where
     long_read : read_chart text old ≡ lines_read (lines_of_text text) old
     unfolding read_chart
     long_read = simp (le-leb chart_most (length old) room)
 
-    pub chart_read_lem : (size : ℕ) → a ≡ Written.Bytes size → ◌≡◌ {A = Filled} (record { reply = (0, size ∷ []); buffer = new }) (read_chart text old)
-    chart_read_lem size e = (rw e at says) ∙ sym long_read
+    -- a refusal's buffer is zeroed, a chart's is left
+    pub chart_refused : (zero : List ℕ) → zero ≡ zeros new → is_err a ≡ true → ◌≡◌ {A = Filled} (record { reply = written_said a; buffer = zero }) (read_chart text old)
+    chart_refused zero z e = rw z (go a says e)
+      where
+        go : (b : Result ℕ Refusal) → ◌≡◌ {A = Filled} (record { reply = written_said b; buffer = zeroed_by b new }) (lines_read (lines_of_text text) old) → is_err b ≡ true → ◌≡◌ {A = Filled} (record { reply = written_said b; buffer = zeros new }) (read_chart text old)
+        go (Ok size) h q = absurd (false≢true q)
+        go (Err why) h q = h ∙ sym long_read
 
-    pub chart_refused : (why : Refusal) → a ≡ Written.Refused why → (zero : List ℕ) → zero ≡ zeros new → ◌≡◌ {A = Filled} (record { reply = said why; buffer = zero }) (read_chart text old)
-    chart_refused why e zero z = rw z ((rw e at says) ∙ sym long_read)
+    pub chart_left : is_err a ≡ false → ◌≡◌ {A = Filled} (record { reply = written_said a; buffer = new }) (read_chart text old)
+    chart_left e = go a says e
+      where
+        go : (b : Result ℕ Refusal) → ◌≡◌ {A = Filled} (record { reply = written_said b; buffer = zeroed_by b new }) (lines_read (lines_of_text text) old) → is_err b ≡ false → ◌≡◌ {A = Filled} (record { reply = written_said b; buffer = new }) (read_chart text old)
+        go (Ok size) h q = h ∙ sym long_read
+        go (Err why) h q = absurd (false≢true (sym q))

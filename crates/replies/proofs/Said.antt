@@ -1,23 +1,18 @@
 -- What a call answers and the paper's number and values are one-to-one: two answers that say the same are the same. Assumes nothing.
 use mathlib.Core.Path.{◌≡◌, refl, sym, ◌∙◌, ap}
 use mathlib.Core.Bool.{false}
-use mathlib.Core.List.{[], ◌∷◌}
+use mathlib.Core.List.{List, [], ◌∷◌}
+use Rattle.std.specs.Prelude.{Result, Ok, Err}
 use Prim.Native.Nat.{ℕ, ◌-◌}
 use lib.ListN.{get_or}
 use lib.Dec.{eqb}
 use Rattle.paper.specs.Lists.{pick}
-use Rattle.paper.specs.Reply.{Reply}
-use Rattle.replies.specs.Replies.{said, checked_said, verdict_said, built_said, both_said, stepped_said, graded_said, written_said}
+use Rattle.paper.specs.Reply.{Reply, fine}
+use Rattle.replies.specs.Replies.{said, shape_said, answer_said, number_said, checked_said, verdict_said, built_said, both_said, stepped_said, graded_said, written_said}
 use Rattle.replies.specs.declared.Refusal.{Refusal}
 use Rattle.replies.specs.declared.Refusal.TheVariants.{Sizes, Short, Grade, Law, Room, Reverse, States, Letter, Table, Sheet, Start, Line, Next, Text}
 use Rattle.replies.specs.declared.Shape.{Shape}
-use Rattle.replies.specs.declared.Checked.{Checked}
-use Rattle.replies.specs.declared.Verdict.{Verdict}
-use Rattle.replies.specs.declared.Built.{Built}
-use Rattle.replies.specs.declared.BuiltBoth.{BuiltBoth}
-use Rattle.replies.specs.declared.Stepped.{Stepped}
-use Rattle.replies.specs.declared.Graded.{Graded}
-use Rattle.replies.specs.declared.Written.{Written}
+use Rattle.replies.specs.declared.Both.{Both}
 
 -- what can be undone is one-to-one
 one_to_one : {A : Type 0} (say : A → Reply) (undo : Reply → A) → ((a : A) → undo (say a) ≡ a) → (a b : A) → say a ≡ say b → a ≡ b
@@ -90,11 +85,20 @@ said_refuses (Text line) = refl
 -- ---- the answers: a success by its values, or a refusal
 
 -- a success where the number is 0, else the refusal that is named
-abbrev answered : {A : Type 0} → A → (Refusal → A) → Reply → A
-answered success refused r = pick (eqb r.0 0) success (refused (named r))
+abbrev answered : {A : Type 0} → (Reply → A) → Reply → Result A Refusal
+answered undo r = pick (eqb r.0 0) (Ok (undo r)) (Err (named r))
 
-answered_refused : {A : Type 0} (success : A) (refused : Refusal → A) (why : Refusal) → answered success refused (said why) ≡ refused why
-answered_refused success refused why = rw (said_refuses why, named_said why)
+module _ {A : Type 0} (values : A → List ℕ) (undo : Reply → A) (undone : (a : A) → undo (fine (values a)) ≡ a) where
+  answer_back : (a : Result A Refusal) → answered undo (answer_said values a) ≡ a
+  answer_back (Ok a) = ap Ok (undone a)
+  answer_back (Err why) = rw (said_refuses why, named_said why)
+
+  -- two answers that say the same are the same, where the values say which success it is
+  answer_one : (a b : Result A Refusal) → answer_said values a ≡ answer_said values b → a ≡ b
+  answer_one = one_to_one (answer_said values) (answered undo) answer_back
+
+pub number_one : (a b : Result ℕ Refusal) → number_said a ≡ number_said b → a ≡ b
+number_one = answer_one (λ n. n ∷ []) (λ r. value r 0) (λ _. refl)
 
 abbrev shape_of : Reply → Shape
 shape_of r =
@@ -112,51 +116,23 @@ shape_of r =
       size = value r 10;
     }
 
-checked_back : (a : Checked) → answered (Checked.Fine (shape_of (checked_said a))) Checked.Refused (checked_said a) ≡ a
-checked_back (Checked.Fine shape) = refl
-checked_back (Checked.Refused why) = answered_refused _ Checked.Refused why
+pub checked_one : (a b : Result Shape Refusal) → checked_said a ≡ checked_said b → a ≡ b
+checked_one = answer_one shape_said shape_of (λ _. refl)
 
-pub checked_one : (a b : Checked) → checked_said a ≡ checked_said b → a ≡ b
-checked_one = one_to_one checked_said (λ r. answered (Checked.Fine (shape_of r)) Checked.Refused r) checked_back
+pub verdict_one : (a b : Result (Unit {0}) Refusal) → verdict_said a ≡ verdict_said b → a ≡ b
+verdict_one = answer_one (λ _. []) (λ _. record {}) (λ _. refl)
 
-verdict_back : (a : Verdict) → answered Verdict.Accepted Verdict.Refused (verdict_said a) ≡ a
-verdict_back Verdict.Accepted = refl
-verdict_back (Verdict.Refused why) = answered_refused _ Verdict.Refused why
+pub built_one : (a b : Result ℕ Refusal) → built_said a ≡ built_said b → a ≡ b
+built_one = number_one
 
-pub verdict_one : (a b : Verdict) → verdict_said a ≡ verdict_said b → a ≡ b
-verdict_one = one_to_one verdict_said (answered Verdict.Accepted Verdict.Refused) verdict_back
+pub both_one : (a b : Result Both Refusal) → both_said a ≡ both_said b → a ≡ b
+both_one = answer_one (λ b. b.states ∷ b.reverse ∷ []) (λ r. record { states = value r 0; reverse = value r 1 }) (λ _. refl)
 
-built_back : (a : Built) → answered (Built.States (value (built_said a) 0)) Built.Refused (built_said a) ≡ a
-built_back (Built.States count) = refl
-built_back (Built.Refused why) = answered_refused _ Built.Refused why
+pub stepped_one : (a b : Result ℕ Refusal) → stepped_said a ≡ stepped_said b → a ≡ b
+stepped_one = number_one
 
-pub built_one : (a b : Built) → built_said a ≡ built_said b → a ≡ b
-built_one = one_to_one built_said (λ r. answered (Built.States (value r 0)) Built.Refused r) built_back
+pub graded_one : (a b : Result ℕ Refusal) → graded_said a ≡ graded_said b → a ≡ b
+graded_one = number_one
 
-both_back : (a : BuiltBoth) → answered (BuiltBoth.States (value (both_said a) 0) (value (both_said a) 1)) BuiltBoth.Refused (both_said a) ≡ a
-both_back (BuiltBoth.States count reverse) = refl
-both_back (BuiltBoth.Refused why) = answered_refused _ BuiltBoth.Refused why
-
-pub both_one : (a b : BuiltBoth) → both_said a ≡ both_said b → a ≡ b
-both_one = one_to_one both_said (λ r. answered (BuiltBoth.States (value r 0) (value r 1)) BuiltBoth.Refused r) both_back
-
-stepped_back : (a : Stepped) → answered (Stepped.Next (value (stepped_said a) 0)) Stepped.Refused (stepped_said a) ≡ a
-stepped_back (Stepped.Next state) = refl
-stepped_back (Stepped.Refused why) = answered_refused _ Stepped.Refused why
-
-pub stepped_one : (a b : Stepped) → stepped_said a ≡ stepped_said b → a ≡ b
-stepped_one = one_to_one stepped_said (λ r. answered (Stepped.Next (value r 0)) Stepped.Refused r) stepped_back
-
-graded_back : (a : Graded) → answered (Graded.Grade (value (graded_said a) 0)) Graded.Refused (graded_said a) ≡ a
-graded_back (Graded.Grade grade) = refl
-graded_back (Graded.Refused why) = answered_refused _ Graded.Refused why
-
-pub graded_one : (a b : Graded) → graded_said a ≡ graded_said b → a ≡ b
-graded_one = one_to_one graded_said (λ r. answered (Graded.Grade (value r 0)) Graded.Refused r) graded_back
-
-written_back : (a : Written) → answered (Written.Bytes (value (written_said a) 0)) Written.Refused (written_said a) ≡ a
-written_back (Written.Bytes count) = refl
-written_back (Written.Refused why) = answered_refused _ Written.Refused why
-
-pub written_one : (a b : Written) → written_said a ≡ written_said b → a ≡ b
-written_one = one_to_one written_said (λ r. answered (Written.Bytes (value r 0)) Written.Refused r) written_back
+pub written_one : (a b : Result ℕ Refusal) → written_said a ≡ written_said b → a ≡ b
+written_one = number_one

@@ -1,15 +1,9 @@
 -- Document 01's number and values for everything that a call can answer.
-use Rattle.std.specs.Prelude.{List, [], ◌∷◌, ℕ}
+use Rattle.std.specs.Prelude.{List, [], ◌∷◌, ℕ, Result, Ok, Err}
 use Rattle.replies.specs.declared.Refusal.{Refusal}
 use Rattle.replies.specs.declared.Refusal.TheVariants.{Sizes, Short, Grade, Law, Room, Reverse, States, Letter, Table, Sheet, Start, Line, Next, Text}
 use Rattle.replies.specs.declared.Shape.{Shape}
-use Rattle.replies.specs.declared.Checked.{Checked}
-use Rattle.replies.specs.declared.Verdict.{Verdict}
-use Rattle.replies.specs.declared.Built.{Built}
-use Rattle.replies.specs.declared.BuiltBoth.{BuiltBoth}
-use Rattle.replies.specs.declared.Stepped.{Stepped}
-use Rattle.replies.specs.declared.Graded.{Graded}
-use Rattle.replies.specs.declared.Written.{Written}
+use Rattle.replies.specs.declared.Both.{Both}
 use Rattle.paper.specs.Reply.{Reply, fine}
 
 abbrev pub said : Refusal → Reply
@@ -32,30 +26,39 @@ said (Text line) = (14, line ∷ [])
 abbrev pub shape_said : Shape → List ℕ
 shape_said s = s.k ∷ s.e ∷ s.n ∷ s.m ∷ s.letters ∷ s.join ∷ s.prod ∷ s.start ∷ s.end ∷ s.matrix ∷ s.size ∷ []
 
-abbrev pub checked_said : Checked → Reply
-checked_said (Checked.Fine shape) = fine (shape_said shape)
-checked_said (Checked.Refused why) = said why
+-- what an answer says: document 01's number 0 and its values, or what the refusal says
+abbrev pub answer_said : {A : Type 0} → (A → List ℕ) → Result A Refusal → Reply
+answer_said values (Ok a) = fine (values a)
+answer_said values (Err why) = said why
+
+-- an answer of one number: a state count, a next state, a grade or how many bytes were written
+abbrev pub number_said : Result ℕ Refusal → Reply
+number_said = answer_said (λ n. n ∷ [])
+
+abbrev pub checked_said : Result Shape Refusal → Reply
+checked_said = answer_said shape_said
+
+-- what the table check and the sheet check answer
+abbrev pub Verdict : Type 0
+Verdict = Result (Unit {0}) Refusal
+
+abbrev pub accepted : Verdict
+accepted = Ok (record {})
 
 abbrev pub verdict_said : Verdict → Reply
-verdict_said Verdict.Accepted = fine []
-verdict_said (Verdict.Refused why) = said why
+verdict_said = answer_said (λ _. [])
 
-abbrev pub built_said : Built → Reply
-built_said (Built.States count) = fine (count ∷ [])
-built_said (Built.Refused why) = said why
+abbrev pub built_said : Result ℕ Refusal → Reply
+built_said = number_said
 
-abbrev pub both_said : BuiltBoth → Reply
-both_said (BuiltBoth.States count reverse) = fine (count ∷ reverse ∷ [])
-both_said (BuiltBoth.Refused why) = said why
+abbrev pub both_said : Result Both Refusal → Reply
+both_said = answer_said (λ b. b.states ∷ b.reverse ∷ [])
 
-abbrev pub stepped_said : Stepped → Reply
-stepped_said (Stepped.Next state) = fine (state ∷ [])
-stepped_said (Stepped.Refused why) = said why
+abbrev pub stepped_said : Result ℕ Refusal → Reply
+stepped_said = number_said
 
-abbrev pub graded_said : Graded → Reply
-graded_said (Graded.Grade grade) = fine (grade ∷ [])
-graded_said (Graded.Refused why) = said why
+abbrev pub graded_said : Result ℕ Refusal → Reply
+graded_said = number_said
 
-abbrev pub written_said : Written → Reply
-written_said (Written.Bytes count) = fine (count ∷ [])
-written_said (Written.Refused why) = said why
+abbrev pub written_said : Result ℕ Refusal → Reply
+written_said = number_said

@@ -4,8 +4,10 @@
 ghost use Rattle.std.specs.Prelude.{◌≡◌};
 ghost use Rattle.replies.specs.Replies.{said};
 
+use std::fmt;
+
 // Why a call is refused: document 01's refusals 1 to 14, in its order.
-#[derive(Clone, Copy)]
+#[derive(Clone, Copy, Debug, PartialEq, Eq)]
 pub enum Refusal {
     // 1: k, e, n or m is out of range
     Sizes,
@@ -52,7 +54,7 @@ pub enum Refusal {
 }
 
 // Sizes of a chart that is not refused, how many letters its words may use, and where its parts begin: worked out once.
-#[derive(Clone, Copy)]
+#[derive(Clone, Copy, Debug, PartialEq, Eq)]
 pub struct Shape {
     pub k: usize,
     pub e: usize,
@@ -67,78 +69,47 @@ pub struct Shape {
     pub size: usize,
 }
 
-// What the chart check answers.
-#[derive(Clone, Copy)]
-pub enum Checked {
-    Fine(Shape),
-    Refused(Refusal),
-}
-
-// What the table check and the sheet check answer.
-#[derive(Clone, Copy)]
-pub enum Verdict {
-    Accepted,
-    Refused(Refusal),
-}
-
-// What the Nerode and the reduced builder answer: the state count.
-#[derive(Clone, Copy)]
-pub enum Built {
-    States(usize),
-    Refused(Refusal),
-}
-
-// What the Brzozowski builder answers: the state count and the reverse count.
-#[derive(Clone, Copy)]
-pub enum BuiltBoth {
-    States(usize, usize),
-    Refused(Refusal),
-}
-
-// What a step answers: the next state.
-#[derive(Clone, Copy)]
-pub enum Stepped {
-    Next(u16),
-    Refused(Refusal),
-}
-
-// What asking for the grade of a state, of a word, or for the cap answers.
-#[derive(Clone, Copy)]
-pub enum Graded {
-    Grade(u8),
-    Refused(Refusal),
-}
-
-// What reading or printing answers: how many bytes were written.
-#[derive(Clone, Copy)]
-pub enum Written {
-    Bytes(usize),
-    Refused(Refusal),
+// The counts that the Brzozowski builder answers: of states, and of reverse vectors.
+#[derive(Clone, Copy, Debug, PartialEq, Eq)]
+pub struct Both {
+    pub states: usize,
+    pub reverse: usize,
 }
 
 // Document 01's number of a refusal.
-pub fn number(why: Refusal) -> u8
-    ensures { result ≡ (said why).0 }
-{
-    match why {
-        Refusal::Sizes => 1,
-        Refusal::Short => 2,
-        Refusal::Grade => 3,
-        Refusal::Law {
-            law: _,
-            a: _,
-            b: _,
-            c: _,
-        } => 4,
-        Refusal::Room => 5,
-        Refusal::Reverse => 6,
-        Refusal::States => 7,
-        Refusal::Letter { at: _ } => 8,
-        Refusal::Table => 9,
-        Refusal::Sheet => 10,
-        Refusal::Start => 11,
-        Refusal::Line { line: _ } => 12,
-        Refusal::Next { line: _, letter: _ } => 13,
-        Refusal::Text { line: _ } => 14,
+impl From<Refusal> for u8 {
+    ghost from_gives = { λ why number. number ≡ (said why).0 };
+
+    fn from(why: Refusal) -> u8 {
+        match why {
+            Refusal::Sizes => 1,
+            Refusal::Short => 2,
+            Refusal::Grade => 3,
+            Refusal::Law { .. } => 4,
+            Refusal::Room => 5,
+            Refusal::Reverse => 6,
+            Refusal::States => 7,
+            Refusal::Letter { .. } => 8,
+            Refusal::Table => 9,
+            Refusal::Sheet => 10,
+            Refusal::Start => 11,
+            Refusal::Line { .. } => 12,
+            Refusal::Next { .. } => 13,
+            Refusal::Text { .. } => 14,
+        }
+    }
+}
+
+// The number, and the values behind it.
+impl fmt::Display for Refusal {
+    fn fmt<W: fmt::Write>(&self, f: &mut fmt::Formatter<W>) -> fmt::Result {
+        write!(f, "{}", u8::from(*self))?;
+        match self {
+            Refusal::Law { law, a, b, c } => write!(f, " {law} {a} {b} {c}"),
+            Refusal::Letter { at } => write!(f, " {at}"),
+            Refusal::Line { line } | Refusal::Text { line } => write!(f, " {line}"),
+            Refusal::Next { line, letter } => write!(f, " {line} {letter}"),
+            _ => Ok(()),
+        }
     }
 }

@@ -13,7 +13,7 @@ use borrow.Author.Tests.{le-leb, lt-leb, ltb-true, ltb-false}
 use borrow.Rule.Slice.PartMut.{mid_of, put_mid}
 use Rattle.paper.specs.Lists.{pick, in_front}
 use Rattle.paper.specs.Chart.{head_size}
-use Rattle.pages.specs.Frames.{byte_at, line_length, payload, frame_fits}
+use Rattle.pages.specs.Frames.{line_length, payload, frame_fits}
 use Rattle.pages.specs.Texts.{Lines, bad_line, lines_of, width_of, dues_from, lines_from, chart_most}
 use Rattle.dues.specs.declared.Counts.{Counts}
 use Rattle.dues.specs.declared.Rule.{Rule}
@@ -23,7 +23,7 @@ use Rattle.dues.specs.Dues.{Ruled, Stepping, behind_line}
 use Rattle.rest_lines.specs.Reading.{RestIn, rest_lines, ChartRead}
 use Rattle.lists.proofs.Lent.{length_in_front}
 use Rattle.lists.proofs.Front.{front_more}
-use Rattle.frames.proofs.FrameRead.{bad_kind, frame_inside, length_payload}
+use Rattle.frames.proofs.FrameRead.{frame_inside, length_payload}
 use Rattle.dues.proofs.Dues.{rest_dues, rest_line, rest_next, rest_end, lines_over, lines_some, sum_due, bytes_due, bytes_few}
 
 -- the lines of ds are due at a line and a place of the text, behind the bytes in front of the buffer; all in all they come to `total`
@@ -122,18 +122,15 @@ module _ {text old : List ℕ} {s : Counts} {buf : List ℕ} {c : Cursor} (r : L
       (rest_end s c.kind c.left (omega (arith, r.high, r.ends)) q)
       r.reading
 
-  -- a line is due, of a kind that is not the one found
+  -- a line is due
   module _ (l : 0 < c.left) where
     due_line : Reading text (rest_lines text s old) old buf ((c.kind, width_of s.k s.n c.kind) ∷ rest_dues s c.kind (c.left - 1)) c.line c.pos c.at
     due_line = subst (λ ds. Reading text (rest_lines text s old) old buf ds c.line c.pos c.at) (rest_line s c.kind c.left l) r.reading
 
-    pub loop_other : (kind : ℕ) → kind ≡ byte_at text c.pos → (kind ≡ c.kind → ⊥) → rest_lines text s old ≡ bad_line c.line
-    loop_other kind q h = read_bad due_line (sym (bad_kind c.kind _ text c.pos kind q h))
-
-    -- of the kind found, which goes by a rule
-    module _ (kind : ℕ) (same : kind ≡ c.kind) (due : Rule) (ruled : Ruled s kind due) where
-      line : Reading text (rest_lines text s old) old buf ((kind, due.width) ∷ rest_dues s c.kind (c.left - 1)) c.line c.pos c.at
-      line = rw (ruled.width_is, same) due_line
+    -- it goes by a rule
+    module _ (due : Rule) (ruled : Ruled s c.kind due) where
+      line : Reading text (rest_lines text s old) old buf ((c.kind, due.width) ∷ rest_dues s c.kind (c.left - 1)) c.line c.pos c.at
+      line = rw ruled.width_is due_line
 
       -- there is room for its bytes, and no number on the way is too large
       pub loop_room : c.at + due.width ≤ length buf
@@ -151,7 +148,7 @@ module _ {text old : List ℕ} {s : Counts} {buf : List ℕ} {c : Cursor} (r : L
       unfolding sum_due
       loop_step =
           record {
-            ruled = rw same at ruled;
+            ruled = ruled;
             few = r.ranges.few;
             low = r.more l;
             line = omega (arith, line.low, line.within, r.ranges.short);
@@ -160,17 +157,17 @@ module _ {text old : List ℕ} {s : Counts} {buf : List ℕ} {c : Cursor} (r : L
           }
 
       -- it is not the frame due
-      pub loop_bad : frame_fits kind due.width text c.pos ≡ false → rest_lines text s old ≡ bad_line c.line
+      pub loop_bad : frame_fits c.kind due.width text c.pos ≡ false → rest_lines text s old ≡ bad_line c.line
       loop_bad e = read_bad line e
 
       -- it is
-      module _ (e : frame_fits kind due.width text c.pos ≡ true) where
+      module _ (e : frame_fits c.kind due.width text c.pos ≡ true) where
         wide : width_of s.k s.n c.kind ≡ due.width
-        wide = sym (ruled.width_is ∙ rw same)
+        wide = sym ruled.width_is
 
         pub loop_falls : length text - (behind_line s c).pos < length text - c.pos
         unfolding behind_line
-        loop_falls = rw wide (omega (arith, frame_inside kind due.width text c.pos e))
+        loop_falls = rw wide (omega (arith, frame_inside c.kind due.width text c.pos e))
 
         pub loop_line : (part : List ℕ) → part ≡ in_front (payload due.width text c.pos) (mid_of c.at (length buf - c.at) buf) → Looped text old s (put_mid c.at (length buf - c.at) buf part) (behind_line s c)
         unfolding behind_line

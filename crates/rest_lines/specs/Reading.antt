@@ -1,11 +1,12 @@
 -- What the inner functions of the chart reader ask of their callers, and what they answer.
-use Rattle.std.specs.Prelude.{◌≡◌, List, ℕ, ◌≤◌, length, take}
+use Rattle.std.specs.Prelude.{◌≡◌, List, ℕ, ◌≤◌, Option, Some, None, Result, Ok, Err, length, take}
 use Rattle.paper.specs.Lists.{in_front}
 use Rattle.paper.specs.Chart.{head_size}
 use Rattle.pages.specs.Frames.{line_length}
 use Rattle.pages.specs.Texts.{Lines, bad_line, bad_head, chart, dues_from, lines_from, text_most, chart_most}
 use Rattle.dues.specs.declared.Counts.{Counts}
-use Rattle.rest_lines.specs.declared.Frames.{Frames}
+use Rattle.replies.specs.declared.Refusal.{Refusal}
+use Rattle.replies.specs.declared.Refusal.TheVariants.{Sizes, Text}
 use Rattle.dues.specs.Dues.{Few}
 
 -- a head in range has been read, and there is room for a chart
@@ -30,8 +31,13 @@ pub record ChartRead (lines : Lines) (old new : List ℕ) (size : ℕ) : Type 0 
   pub headed : head_size ≤ size
   pub front : new ≡ in_front bytes old
 
+-- why lines are refused that come to no chart
+abbrev pub refused_by : Lines → Option Refusal
+refused_by (bad_line line) = Some (Text line)
+refused_by bad_head = Some Sizes
+refused_by (chart bytes) = None
+
 -- what an answer says of lines that were read, and of the buffer
-abbrev pub LinesSay : Lines → List ℕ → List ℕ → Frames → Type 0
-LinesSay lines old new (Frames.Chart size) = ChartRead lines old new size
-LinesSay lines old new (Frames.BadLine line) = lines ≡ bad_line line
-LinesSay lines old new Frames.BadHead = lines ≡ bad_head
+abbrev pub LinesSay : Lines → List ℕ → List ℕ → Result ℕ Refusal → Type 0
+LinesSay lines old new (Ok size) = ChartRead lines old new size
+LinesSay lines old new (Err why) = refused_by lines ≡ Some why

@@ -2,43 +2,15 @@
 use mathlib.Core.Path.{◌≡◌, sym, ap, ◌∙◌}
 use mathlib.Core.Bool.{Bool, true, false}
 use mathlib.Core.List.{List}
-use Prim.Native.Nat.{ℕ, suc, ◌+◌, ◌*◌, ◌≤◌, ◌<◌}
-use native.Mathlib.Numerals.{add-one}
-use native.Mathlib.Omega.{arith}
+use Prim.Native.Nat.{ℕ, suc, ◌*◌, ◌≤◌}
 use lib.ListN.{length, replicate}
-use borrow.Author.Tests.{lt-leb, le-leb, leb-true}
+use borrow.Author.Tests.{leb-true}
 use Rattle.paper.specs.Lists.{both, zeros}
 use Rattle.paper.specs.Tables.{row_size}
 use Rattle.paper.specs.Builders.{room_fits}
-use Rattle.lists.proofs.Tests.{both_split, both_true, both_not_left, both_not_right}
+use Rattle.lists.proofs.Tests.{both_split}
 
 module _ (most m w room table values : ℕ) where
-  pub room_none : room < 1 → false ≡ room_fits most m w room table values
-  unfolding room_fits both
-  room_none h = simp (lt-leb 1 room h)
-
-  pub room_over : most < room → false ≡ room_fits most m w room table values
-  unfolding room_fits
-  room_over h = sym (both_not_left _ _ (both_not_right _ _ (lt-leb room most h)))
-
-  pub table_short : table < room * row_size m → false ≡ room_fits most m w room table values
-  unfolding room_fits
-  table_short h = sym (both_not_right _ _ (both_not_left _ _ (lt-leb (room * row_size m) table h)))
-
-  pub values_short : values < (room + 1) * w → false ≡ room_fits most m w room table values
-  unfolding room_fits
-  values_short h =
-      let e : (room + 1) * w ≡ suc room * w = ap (λ k. k * w) (add-one room) in
-      sym (both_not_right _ _ (both_not_right _ _ (lt-leb (suc room * w) values (omega arith))))
-
-  pub room_good : 1 ≤ room → room ≤ most → room * row_size m ≤ table → (room + 1) * w ≤ values → true ≡ room_fits most m w room table values
-  unfolding room_fits
-  room_good a b d f =
-      let e : (room + 1) * w ≡ suc room * w = ap (λ k. k * w) (add-one room) in
-      sym
-      (both_true _ _ (both_true _ _ (le-leb 1 room a) (le-leb room most b))
-      (both_true _ _ (le-leb (room * row_size m) table d) (le-leb (suc room * w) values (omega arith))))
-
   -- what a room that fits gives
   pub record Roomy : Type 0 where
     pub low : 1 ≤ room

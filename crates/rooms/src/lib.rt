@@ -9,17 +9,5 @@ pub fn room_fits(most: usize, m: usize, w: usize, room: usize, table: usize, val
     requires { (most ≤ 4096) × (m ≤ 16) × (w ≤ 128) }
     ensures { result ≡ room_fits most m w room table values }
 {
-    if room < 1 {
-        return false;
-    }
-    if most < room {
-        return false;
-    }
-    if table < room * (1 + 2 * m) {
-        return false;
-    }
-    if values < (room + 1) * w {
-        return false;
-    }
-    true
+    (1..=most).contains(&room) && room * (1 + 2 * m) <= table && (room + 1) * w <= values
 }

@@ -7,15 +7,15 @@ ghost use Rattle.paper.specs.Builders.{brzozowski, backward_room};
 ghost use Rattle.row_build.specs.Lent.{lent};
 ghost use Rattle.paper.specs.Check.{chart_fits};
 ghost use Rattle.paper.specs.Lists.{zeros};
-ghost use Rattle.cells.specs.Shaped.{Shaped};
 
-use kinds::{Kind, Plan};
+use cells::Chart;
+use kinds::Kind;
+use kinds::plan::Plan;
 use lists::zero;
-use nexts::Grown;
-use replies::{BuiltBoth, Refusal, Shape};
+use replies::{Both, Refusal};
 use walk::grow;
 
-// Zeros in all four buffers.
+// Zeros in all four buffers. Document 01's call lends them apart; in contracts they are one `Lent`.
 pub fn zero_all(a: &mut [u8], b: &mut [u8], c: &mut [u8], d: &mut [u8])
     ensures { (a.new ≡ zeros a.old) × (b.new ≡ zeros b.old) × (c.new ≡ zeros c.old) × (d.new ≡ zeros d.old) }
 {
@@ -27,39 +27,45 @@ pub fn zero_all(a: &mut [u8], b: &mut [u8], c: &mut [u8], d: &mut [u8])
 
 // The Brzozowski table of a checked chart, where there is room for it: the reverse table first, then the rows over it.
 pub fn build_rows(
-    chart: &[u8],
-    shape: Shape,
+    chart: &Chart,
     room: usize,
     reverse: usize,
     table: &mut [u8],
     reverse_table: &mut [u8],
     reverse_vectors: &mut [u8],
     rows: &mut [u8],
-) -> BuiltBoth
-    requires { (chart_fits chart.now ≡ true) × Shaped chart.now shape × (backward_room chart.now room reverse (lent table.old reverse_table.old reverse_vectors.old rows.old) ≡ true) }
+) -> Result<Both, Refusal>
+    requires { (chart_fits chart.now ≡ true) × (backward_room chart.now room reverse (lent table.old reverse_table.old reverse_vectors.old rows.old) ≡ true) }
     ensures { record { reply = both_said result; left = lent table.new reverse_table.new reverse_vectors.new rows.new } ≡ brzozowski chart.now room reverse (lent table.old reverse_table.old reverse_vectors.old rows.old) }
 {
+    let n = chart.n();
     let back = Plan {
         kind: Kind::Reverse,
-        shape: shape,
-        width: shape.n,
-        stride: shape.n,
+        chart,
+        // No reverse table is read yet.
+        reverse: &[],
+        width: n,
+        stride: n,
         room: reverse,
     };
-    let Grown::Held(count) = grow(back, chart, chart, reverse_table, reverse_vectors) else {
+    let Some(count) = grow(&back, reverse_table, reverse_vectors) else {
         zero_all(table, reverse_table, reverse_vectors, rows);
-        return BuiltBoth::Refused(Refusal::Reverse);
+        return Err(Refusal::Reverse);
     };
     let plan = Plan {
         kind: Kind::Rows,
-        shape: shape,
+        chart,
+        reverse: reverse_table,
         width: count,
         stride: reverse,
-        room: room,
+        room,
     };
-    let Grown::Held(states) = grow(plan, chart, reverse_table, table, rows) else {
+    let Some(states) = grow(&plan, table, rows) else {
         zero_all(table, reverse_table, reverse_vectors, rows);
-        return BuiltBoth::Refused(Refusal::States);
+        return Err(Refusal::States);
     };
-    BuiltBoth::States(states, count)
+    Ok(Both {
+        states,
+        reverse: count,
+    })
 }

@@ -32,14 +32,9 @@ pub fn put_rows(rows: &[u8], count: usize, m: usize, text: &mut [u8])
     ensures { text.new ≡ in_front (joined count (row_line rows.now m)) text.old }
 {
     let width = 1 + 2 * m;
-    let mut s = 0;
-    let mut from = 0;
-    let mut at = 0;
-    while s < count {
-        let next = from + width;
-        put_frame(0x12, &rows[from..next], &mut text[at..]);
-        s += 1;
-        from = next;
-        at += 7 + 2 * width;
+    let line = 7 + 2 * width;
+    for s in 0..count {
+        let from = s * width;
+        put_frame(0x12, &rows[from..from + width], &mut text[s * line..]);
     }
 }

@@ -3,30 +3,32 @@ use mathlib.Core.Path.{◌≡◌, refl, sym, ap, ◌∙◌}
 use mathlib.Core.Bool.{Bool, true, false}
 use mathlib.Core.List.{List}
 use Prim.Native.Nat.{ℕ, suc, ◌+◌, ◌-◌, ◌*◌, ◌≤◌, ◌<◌}
-use native.Mathlib.Nat.{le_refl, suc-mul, mul-le-mul_right, mul-le-mul}
+use native.Mathlib.Nat.{le_refl, suc-mul, mul-le-mul_right}
 use native.Mathlib.Numerals.{add-one}
 use native.Mathlib.Omega.{arith}
-use lib.ListN.{length, get_or, take, drop, set, length-set}
-use lib.Seq.{get_or-set_same, get_or-set_other}
+use lib.ListN.{length, get_or, take, drop, set}
+use lib.Seq.{get_or-set_other}
 use borrow.Author.Tests.{lt-ltb, le-ltb}
 use Rattle.paper.specs.Lists.{same_list}
+use Rattle.paper.specs.Chart.{k_of}
 use Rattle.paper.specs.Numbering.{place}
 use Rattle.lists.proofs.ByPlace.{same_true, same_false}
 use Rattle.lists.proofs.Tests.{below_suc}
 use Rattle.numbering.proofs.Place.{place_is, place_nowhere}
 use Rattle.places.specs.Search.{place_at}
-use Rattle.places.specs.declared.Place.{Place}
 use Rattle.places.proofs.Search.{length_values, values_at}
 use Rattle.marks.specs.Marks.{mark_of}
-use Rattle.marks.specs.Chains.{bucket_of, Chained}
+use Rattle.std.specs.Prelude.{Option, Some, None}
+use Rattle.std.specs.Option.{is_some}
+use Rattle.marks.specs.declared.chains.Index.{Index}
+use Rattle.marks.specs.Chains.{bucket_of, entry, Chained}
 use Rattle.marks.proofs.ChainLaws.{OnChain, NoneFrom, start_on, next_on, next_low, none_start, none_next}
 use Rattle.paper.specs.Constructions.{reduced_key}
-use Rattle.cells.specs.Shaped.{Shaped}
-use Rattle.kinds.specs.Kinds.{key_by, keyed, key_size}
-use Rattle.kinds.specs.Ready.{Value, Sized}
-use Rattle.search.specs.Kept.{kept_in, Valued, Holds, FoundFor, Sought}
+use Rattle.kinds.specs.Kinds.{made, keyed, key_size}
+use Rattle.kinds.specs.Ready.{Value}
+use Rattle.search.specs.Kept.{kept_in, Valued, Holds, FoundFor, Sought, held_with}
 use Rattle.kinds.specs.declared.Kind.{Kind}
-use Rattle.kinds.specs.declared.Plan.{Plan}
+use Rattle.kinds.specs.declared.plan.Plan.{Plan}
 use Rattle.kinds.proofs.KindLaws.{own_key, own_size}
 use Rattle.kinds.proofs.Keys.{length_key}
 
@@ -36,158 +38,152 @@ unfolding place_at
 taken stride w xs s at e = let q : at + w - at ≡ w = omega arith in rw (q, e)
 
 -- a place below the room is within the bytes
-pub place_inside : {c : List ℕ} {p : Plan} {vectors marks : List ℕ} {held : ℕ} → Valued c p vectors marks held → (s : ℕ) → s ≤ p.room →
+pub place_inside : {p : Plan} {vectors marks : List ℕ} {held : ℕ} → Valued p vectors marks held → (s : ℕ) → s ≤ p.room →
     s * p.stride + p.stride ≤ length vectors
-place_inside {c} {p} h s l =
+place_inside {p} h s l =
     let m : suc s * p.stride ≤ suc p.room * p.stride = mul-le-mul_right p.stride (omega arith) in
     omega (arith, suc-mul s p.stride, h.fits)
 
--- and its offset is small
-pub place_small : {c : List ℕ} {p : Plan} → Sized c p → (s : ℕ) → s ≤ suc p.room → s * p.stride ≤ 524416
-place_small {c} {p} z s l =
-    let l' : s ≤ 4097 = omega (arith, z.room_high) in
-    mul-le-mul l' z.stride_high
-
 -- ---- one place, and the answer
 
-module _ {c : List ℕ} {p : Plan} {vectors marks : List ℕ} {held : ℕ} (h : Valued c p vectors marks held) (key : List ℕ) where
+module _ {p : Plan} {vectors marks : List ℕ} {held : ℕ} (h : Valued p vectors marks held) (key : List ℕ) where
   -- the key of the value in place s
   abbrev key_at : ℕ → List ℕ
-  key_at s = key_by p.kind c (place_at p.stride p.width vectors s)
+  key_at s = (made p).key (place_at p.stride p.width vectors s)
 
   -- the value as the code takes it
-  pub value_taken : (s at : ℕ) → s < held → at ≡ s * p.stride → Value p.shape.k p.width (take (at + p.width - at) (drop at vectors))
-  value_taken s at l e = rw (taken p.stride p.width vectors s at e) (h.values s l)
+  pub value_taken : (s : ℕ) → s < held → Value (k_of p.chart.now) p.width (take (s * p.stride + p.width - s * p.stride) (drop (s * p.stride) vectors))
+  value_taken s l = rw (taken p.stride p.width vectors s (s * p.stride) refl) (h.values s l)
 
-  pub told : (s at : ℕ) {t : Bool} → at ≡ s * p.stride → t ≡ same_list (key_by p.kind c (take (at + p.width - at) (drop at vectors))) key → t ≡ same_list (key_at s) key
-  told s at e q = q ∙ rw (taken p.stride p.width vectors s at e)
+  pub told : (s : ℕ) {t : Bool} → t ≡ same_list ((made p).key (take (s * p.stride + p.width - s * p.stride) (drop (s * p.stride) vectors))) key → t ≡ same_list (key_at s) key
+  told s q = q ∙ rw (taken p.stride p.width vectors s (s * p.stride) refl)
 
-  module _ (s : ℕ) (passed : (j : ℕ) → j < s → key_by p.kind c (place_at p.stride p.width vectors j) ≡ key → ⊥) where
-    found_at : s < held → key_by p.kind c (place_at p.stride p.width vectors s) ≡ key → FoundFor p c vectors held key (Place.At s)
+  module _ (s : ℕ) (passed : (j : ℕ) → j < s → (made p).key (place_at p.stride p.width vectors j) ≡ key → ⊥) where
+    found_at : s < held → (made p).key (place_at p.stride p.width vectors s) ≡ key → FoundFor p vectors held key (Some s)
     found_at l e v ev =
-        let q : place (key_by p.kind c) (kept_in p held vectors) v ≡ s =
-        place_is (key_by p.kind c) (kept_in p held vectors) v s (rw length_values l) (rw (values_at p.stride p.width held vectors s l) (e ∙ ev))
+        let q : place ((made p).key) (kept_in p held vectors) v ≡ s =
+        place_is ((made p).key) (kept_in p held vectors) v s (rw length_values l) (rw (values_at p.stride p.width held vectors s l) (e ∙ ev))
         (λ j b f. passed j b ((rw (values_at p.stride p.width held vectors j (omega arith)) at f) ∙ sym ev)) in
         simp (q, lt-ltb s held l)
 
-    found_none : held ≤ s → FoundFor p c vectors held key Place.Nowhere
+    found_none : held ≤ s → FoundFor p vectors held key None
     found_none l v ev =
-        let q : place (key_by p.kind c) (kept_in p held vectors) v ≡ held =
-        place_nowhere (key_by p.kind c) (kept_in p held vectors) v
+        let q : place ((made p).key) (kept_in p held vectors) v ≡ held =
+        place_nowhere ((made p).key) (kept_in p held vectors) v
         (λ j b f.
         let b' : j < held = rw length_values at b in
         passed j (omega arith) ((rw (values_at p.stride p.width held vectors j b') at f) ∙ sym ev))
         ∙ length_values p.stride p.width held vectors in
         simp (q, le-ltb held held (omega arith))
 
--- what holds of more places holds of fewer
-pub valued_less : {c : List ℕ} {p : Plan} {vectors marks : List ℕ} {held : ℕ} (s : ℕ) → s ≤ held → Valued c p vectors marks held → Valued c p vectors marks s
-valued_less s l h = record { fits = h.fits; roomy = h.roomy; values = λ j b. h.values j (omega arith); marked = λ j b. h.marked j (omega arith) }
-
 -- ---- the walk along the chain
 
--- an entry that it comes to, where `first` is the first place passed that has the key, or `held`
-pub record Down (c : List ℕ) (p : Plan) (vectors marks : List ℕ) (held number : ℕ) (key : List ℕ) (entry first : ℕ) : Type 0 where
-  pub on : OnChain marks held number entry
-  pub past : NoneFrom (λ s. key_by p.kind c (place_at p.stride p.width vectors s) ≡ key) entry first
-  pub top : first ≤ held
-  pub own : first < held → key_by p.kind c (place_at p.stride p.width vectors first) ≡ key
+-- the first place passed that has the key, or `held`
+abbrev until : ℕ → Option ℕ → ℕ
+until held None = held
+until held (Some s) = s
 
-module _ {c : List ℕ} {p : Plan} {vectors heads links marks : List ℕ} {held number : ℕ} {key : List ℕ} (h : Holds c p vectors (heads, links, marks) held) (n : number ≡ mark_of key) where
+-- a place that it comes to
+pub record Down (p : Plan) (vectors marks : List ℕ) (held number : ℕ) (key : List ℕ) (next first : Option ℕ) : Type 0 where
+  pub on : OnChain marks held number (entry next)
+  pub past : NoneFrom (λ s. (made p).key (place_at p.stride p.width vectors s) ≡ key) (entry next) (until held first)
+  pub own : (s : ℕ) → first ≡ Some s → (s < held) × ((made p).key (place_at p.stride p.width vectors s) ≡ key)
+
+module _ {p : Plan} {vectors : List ℕ} {index : Index} {held number : ℕ} {key : List ℕ} (h : Holds p vectors index held) (n : number ≡ mark_of key) where
   -- a place with the key has the number
-  numbered : (s : ℕ) → s < held → key_by p.kind c (place_at p.stride p.width vectors s) ≡ key → get_or marks s 0 ≡ number
+  numbered : (s : ℕ) → s < held → (made p).key (place_at p.stride p.width vectors s) ≡ key → get_or index.marks s 0 ≡ number
   numbered s l e = h.valued.marked s l ∙ ap mark_of e ∙ sym n
 
-  pub down_start : {entry : ℕ} → entry ≡ get_or heads (bucket_of number) 0 → Down c p vectors marks held number key entry held
-  down_start e =
-      record { on = start_on h.chained number e; past = none_start h.chained number _ numbered e; top = le_refl held; own = λ l. absurd (omega arith) }
+  pub down_start : {next : Option ℕ} → entry next ≡ get_or index.heads (bucket_of number) 0 → Down p vectors index.marks held number key next None
+  down_start e = record { on = start_on h.chained number e; past = none_start h.chained number _ numbered e; own = λ s f. absurd (cc) }
 
-  module _ {entry first s next : ℕ} (d : Down c p vectors marks held number key entry first) (f : suc s ≡ entry) (e : next ≡ get_or links s 0) where
-    -- place s has the key
-    pub down_here : {first' : ℕ} {t : Bool} → first' ≡ s → t ≡ same_list (key_by p.kind c (place_at p.stride p.width vectors s)) key → t ≡ true →
-        Down c p vectors marks held number key next first'
-    down_here g q y =
-        record {
-          on = next_on h.chained number d.on f e;
-          past = none_next h.chained number _ numbered d.on f e (λ t l b. absurd (omega arith)) (λ b. absurd (omega arith));
-          top = omega (arith, d.on.low);
-          own = λ _. rw g (same_true _ key (sym q ∙ y));
-        }
+  module _ {s : ℕ} {here first : Option ℕ} (d : Down p vectors index.marks held number key here first) (f : here ≡ Some s) where
+    pub down_low : s < held
+    down_low = omega (arith, d.on.low, ap entry f)
 
-    -- or not
-    pub down_past : {first' : ℕ} {t : Bool} → first' ≡ first → t ≡ same_list (key_by p.kind c (place_at p.stride p.width vectors s)) key → t ≡ false →
-        Down c p vectors marks held number key next first'
-    down_past g q y =
-        record {
-          on = next_on h.chained number d.on f e;
-          past = rw g (none_next h.chained number _ numbered d.on f e d.past (λ _. same_false _ key (sym q ∙ y)));
-          top = rw g d.top;
-          own = rw g d.own;
-        }
+    at_s : suc s ≡ entry here
+    at_s = ap entry (sym f)
 
-    pub down_less : next < entry
-    down_less = omega (arith, next_low h.chained number d.on f e)
+    pub down_less : (next : Option ℕ) → entry next ≡ get_or index.links s 0 → entry next < entry here
+    down_less next e = omega (arith, next_low h.chained number d.on at_s e, at_s)
 
-  module _ {entry first : ℕ} (d : Down c p vectors marks held number key entry first) (z : entry ≡ 0) where
-    passed : (j : ℕ) → j < first → key_by p.kind c (place_at p.stride p.width vectors j) ≡ key → ⊥
-    passed j b = d.past j (omega arith) b
+    module _ {next : Option ℕ} (e : entry next ≡ get_or index.links s 0) {t : Bool} (q : t ≡ same_list ((made p).key (place_at p.stride p.width vectors s)) key) where
+      -- place s has the key
+      pub down_here : {first' : Option ℕ} → first' ≡ Some s → t ≡ true → Down p vectors index.marks held number key next first'
+      down_here g y =
+          rw
+          g
+          (record {
+            on = next_on h.chained number d.on at_s e;
+            past = none_next h.chained number _ numbered d.on at_s e (λ t l b. absurd (omega (arith, at_s))) (λ b. absurd (omega arith));
+            own = λ r i. let j : s ≡ r = cc in rw (← j) (down_low, same_true _ key (sym q ∙ y));
+          })
 
-    pub down_none : first ≡ held → FoundFor p c vectors held key Place.Nowhere
-    down_none e = found_none h.valued key first passed (omega arith)
+      -- or not
+      pub down_past : {first' : Option ℕ} → first' ≡ first → t ≡ false → Down p vectors index.marks held number key next first'
+      down_past g y =
+          rw
+          g
+          (record {
+            on = next_on h.chained number d.on at_s e;
+            past = none_next h.chained number _ numbered d.on at_s e d.past (λ _. same_false _ key (sym q ∙ y));
+            own = d.own;
+          })
 
-    pub down_found : (first ≡ held → ⊥) → FoundFor p c vectors held key (Place.At first)
-    down_found f =
-        let l : first < held = omega (arith, d.top, f) in
-        found_at h.valued key first passed l (d.own l)
+  pub down_end : {next first : Option ℕ} → Down p vectors index.marks held number key next first → next ≡ None → FoundFor p vectors held key first
+  down_end {next} {first} d z = go first d
+    where
+      go : (first : Option ℕ) → Down p vectors index.marks held number key next first → FoundFor p vectors held key first
+      go None d = found_none h.valued key held (λ j b. d.past j (omega (arith, ap entry z)) b) (le_refl held)
+      go (Some s) d = let o = d.own s refl in found_at h.valued key s (λ j b. d.past j (omega (arith, ap entry z)) b) o.0 o.1
 
 -- ---- the candidate looked for
 
-module _ {c : List ℕ} {p : Plan} {vectors heads links marks : List ℕ} {held : ℕ} {key : List ℕ} {found : Place} (h : Holds c p vectors (heads, links, marks) held)
-    (e : key ≡ key_by p.kind c (place_at p.stride p.width vectors held)) (f : FoundFor p c vectors held key found) where
-  -- its key is there: nothing is kept
-  pub sought_old : {j : ℕ} → found ≡ Place.At j → Sought p c vectors (heads, links, marks) held (Place.At j)
-  sought_old g = record { answer = sym g ∙ f _ e; holds = h }
-
+module _ {p : Plan} {vectors : List ℕ} {index : Index} {held : ℕ} {key : List ℕ} {found : Option ℕ} (h : Holds p vectors index held)
+    (e : key ≡ (made p).key (place_at p.stride p.width vectors held)) (f : FoundFor p vectors held key found) where
   -- its key is new: its number is kept, and indexed
-  module _ {heads' links' marks' : List ℕ} {number : ℕ} (r : held ≤ p.room) (v : Value p.shape.k p.width (place_at p.stride p.width vectors held)) (n : number ≡ mark_of key)
-      (l : length links' ≡ length links) (k : Chained heads' links' marks' (held + 1) × (marks' ≡ set marks held number)) where
-    valued_more : Valued c p vectors marks' (held + 1)
+  module _ {index' : Index} {number : ℕ} (v : Value (k_of p.chart.now) p.width (place_at p.stride p.width vectors held)) (n : number ≡ mark_of key)
+      (k : Chained index' (held + 1) × (index'.marks ≡ set index.marks held number) × (get_or index'.marks held 0 ≡ number)) where
+    valued_more : Valued p vectors index'.marks (held + 1)
     valued_more =
         record {
           fits = h.valued.fits;
-          roomy = rw (k.1, length-set) h.valued.roomy;
-          values = rw add-one (below_suc {P = λ i. Value p.shape.k p.width (place_at p.stride p.width vectors i)} held h.valued.values v);
+          values = rw add-one (below_suc {P = λ i. Value (k_of p.chart.now) p.width (place_at p.stride p.width vectors i)} held h.valued.values v);
           marked =
               rw add-one
-              (below_suc {P = λ i. get_or marks' i 0 ≡ mark_of (key_by p.kind c (place_at p.stride p.width vectors i))} held
-              (λ i b. rw k.1 (get_or-set_other marks held i number 0 (λ e. omega arith) ∙ h.valued.marked i b))
-              (rw k.1 (get_or-set_same marks held number 0 (omega (arith, h.valued.roomy)) ∙ n ∙ ap mark_of e)));
+              (below_suc {P = λ i. get_or index'.marks i 0 ≡ mark_of ((made p).key (place_at p.stride p.width vectors i))} held
+              (λ i b. rw k.1 (get_or-set_other index.marks held i number 0 (λ e. omega arith) ∙ h.valued.marked i b))
+              (k.2 ∙ n ∙ ap mark_of e));
         }
 
-    pub sought_new : found ≡ Place.Nowhere → Sought p c vectors (heads', links', marks') held Place.Nowhere
-    sought_new g = record { answer = sym g ∙ f _ e; holds = record { valued = valued_more; linked = rw l h.linked; chained = k.0 } }
+    pub sought_new : is_some found ≡ false → Sought p vectors index' held found
+    sought_new g = record { answer = f _ e; holds = go found g }
+      where
+        go : (found : Option ℕ) → is_some found ≡ false → Holds p vectors index' (held_with held found)
+        go None g = record { valued = valued_more; chained = k.0 }
+        go (Some s) g = absurd (cc)
 
 -- ---- the candidate's key
 
 module _ (p : Plan) (vectors : List ℕ) (held : ℕ) where
   -- the candidate as the code takes it
-  pub candidate : Value p.shape.k p.width (place_at p.stride p.width vectors held) →
-      Value p.shape.k p.width (take (held * p.stride + p.width - held * p.stride) (drop (held * p.stride) vectors))
+  pub candidate : Value (k_of p.chart.now) p.width (place_at p.stride p.width vectors held) →
+      Value (k_of p.chart.now) p.width (take (held * p.stride + p.width - held * p.stride) (drop (held * p.stride) vectors))
   candidate h = rw (taken p.stride p.width vectors held (held * p.stride) refl) h
 
   -- its key in the reduced table
-  module _ (c : List ℕ) (e : p.kind ≡ Kind.Reduced) {key : List ℕ} (h : key ≡ reduced_key c (take (held * p.stride + p.width - held * p.stride) (drop (held * p.stride) vectors))) where
-    pub key_reduced : key ≡ key_by p.kind c (place_at p.stride p.width vectors held)
+  module _ (e : p.kind ≡ Kind.Reduced) {key : List ℕ} (h : key ≡ reduced_key p.chart.now (take (held * p.stride + p.width - held * p.stride) (drop (held * p.stride) vectors))) where
+    pub key_reduced : key ≡ (made p).key (place_at p.stride p.width vectors held)
     key_reduced = h ∙ rw (taken p.stride p.width vectors held (held * p.stride) refl, e)
 
-    pub size_reduced : Shaped c p.shape → length key ≡ key_size p.kind p.shape p.width
-    size_reduced z = rw e (ap length h ∙ length_key _ z)
+    pub size_reduced : length key ≡ key_size p.kind p.chart.now p.width
+    size_reduced = rw e (ap length h ∙ length_key p.chart.now _)
 
   -- and elsewhere
-  module _ (c : List ℕ) (e : keyed p.kind ≡ false) where
-    pub key_itself : take (held * p.stride + p.width - held * p.stride) (drop (held * p.stride) vectors) ≡ key_by p.kind c (place_at p.stride p.width vectors held)
-    key_itself = taken p.stride p.width vectors held (held * p.stride) refl ∙ sym (own_key p.kind c _ e)
+  module _ (e : keyed p.kind ≡ false) where
+    pub key_itself : take (held * p.stride + p.width - held * p.stride) (drop (held * p.stride) vectors) ≡ (made p).key (place_at p.stride p.width vectors held)
+    key_itself = taken p.stride p.width vectors held (held * p.stride) refl ∙ sym (own_key p.kind p.chart.now _ e)
 
-    pub size_itself : Value p.shape.k p.width (place_at p.stride p.width vectors held) →
-        length (take (held * p.stride + p.width - held * p.stride) (drop (held * p.stride) vectors)) ≡ key_size p.kind p.shape p.width
-    size_itself h = (candidate h).long ∙ sym (own_size p.kind p.shape p.width e)
+    pub size_itself : Value (k_of p.chart.now) p.width (place_at p.stride p.width vectors held) →
+        length (take (held * p.stride + p.width - held * p.stride) (drop (held * p.stride) vectors)) ≡ key_size p.kind p.chart.now p.width
+    size_itself h = (candidate h).long ∙ sym (own_size p.kind p.chart.now p.width e)

@@ -2,124 +2,95 @@
 #![tactic(auto)]
 
 ghost use Rattle.std.specs.Prelude.{◌≡◌, suc, ◌*◌, ◌≤◌, length};
+ghost use Rattle.paper.specs.Chart.{k_of};
 ghost use Rattle.paper.specs.Lists.{same_list};
 ghost use Rattle.places.specs.Search.{place_at};
 ghost use Rattle.marks.specs.Marks.{mark_of};
-ghost use Rattle.kinds.specs.Kinds.{key_by, key_size};
-ghost use Rattle.kinds.specs.Ready.{Value, Sized};
+ghost use Rattle.kinds.specs.Kinds.{made, key_size};
+ghost use Rattle.kinds.specs.Ready.{Value};
 ghost use Rattle.search.specs.Kept.{Valued, Holds, FoundFor, Sought};
 
 use key_bytes::put_key;
 use keys::same_by;
-use kinds::{Plan, keyed};
-use marks::chains::{chain, earlier, last_with};
+use kinds::keyed;
+use kinds::plan::Plan;
+use marks::chains::Index;
 use marks::mark;
-use places::Place;
 
-// Whether the value in place s, at its offset, has this key. Bytes are compared only where the numbers agree.
+// Whether the value in place s has this key. Bytes are compared only where the numbers agree.
 pub fn has_key(
-    plan: Plan,
-    chart: &[u8],
+    plan: &Plan,
     vectors: &[u8],
-    marks: &[u32],
+    index: &Index,
     s: usize,
-    at: usize,
     number: u32,
     key: &[u8],
 ) -> bool
-    requires { Sized chart.now plan × Valued chart.now plan vectors.now marks.now (suc s) × (s ≤ plan.room) × (at ≡ s * plan.stride) × (number ≡ mark_of key.now) × (length key.now ≡ key_size plan.kind plan.shape plan.width) }
-    ensures { result ≡ same_list (key_by plan.kind chart.now (place_at plan.stride plan.width vectors.now s)) key.now }
+    requires { Valued plan.now vectors.now index.now.marks (suc s) × (s ≤ plan.now.room) × (number ≡ mark_of key.now) × (length key.now ≡ key_size plan.now.kind plan.now.chart.now plan.now.width) }
+    ensures { result ≡ same_list ((made plan.now).key (place_at plan.now.stride plan.now.width vectors.now s)) key.now }
 {
-    if marks[s] != number {
+    if index.number_of(s) != number {
         return false;
     }
-    let to = at + plan.width;
-    same_by(plan, chart, &vectors[at..to], key)
+    let at = s * plan.stride;
+    same_by(plan, &vectors[at..at + plan.width], key)
 }
 
 // Where, among the first `held` places, a value with this key first stands. A chain goes from the last place to the first, so it is walked to its end.
 pub fn find(
-    plan: Plan,
-    chart: &[u8],
+    plan: &Plan,
     vectors: &[u8],
-    heads: &[u16],
-    links: &[u16],
-    marks: &[u32],
+    index: &Index,
     held: usize,
     number: u32,
     key: &[u8],
-) -> Place
-    requires { Sized chart.now plan × Holds chart.now plan vectors.now (heads.now, links.now, marks.now) held × (held ≤ plan.room) × (number ≡ mark_of key.now) × (length key.now ≡ key_size plan.kind plan.shape plan.width) }
-    ensures { FoundFor plan chart.now vectors.now held key.now result }
+) -> Option<usize>
+    requires { Holds plan.now vectors.now index.now held × (held ≤ plan.now.room) × (number ≡ mark_of key.now) × (length key.now ≡ key_size plan.now.kind plan.now.chart.now plan.now.width) }
+    ensures { FoundFor plan.now vectors.now held key.now result }
 {
-    let mut first = held;
-    let mut p = last_with(heads, number);
-    while p != 0 {
-        let s = p - 1;
-        if has_key(plan, chart, vectors, marks, s, s * plan.stride, number, key) {
-            first = s;
+    let mut first = None;
+    let mut next = index.last_with(number);
+    while let Some(s) = next {
+        if has_key(plan, vectors, index, s, number, key) {
+            first = Some(s);
         }
-        p = earlier(links, s);
+        next = index.earlier(s);
     }
-    if first == held {
-        return Place::Nowhere;
-    }
-    Place::At(first)
+    first
 }
 
 // Looks for the key of the value in place `held` among the places before it. Where it is new, the place is indexed by its number.
 pub fn look(
-    plan: Plan,
-    chart: &[u8],
+    plan: &Plan,
     vectors: &[u8],
-    heads: &mut [u16],
-    links: &mut [u16],
-    marks: &mut [u32],
+    index: &mut Index,
     held: usize,
     key: &[u8],
-) -> Place
-    requires { Sized chart.now plan × Holds chart.now plan vectors.now (heads.old, links.old, marks.old) held × (held ≤ plan.room) × Value plan.shape.k plan.width (place_at plan.stride plan.width vectors.now held) × (key.now ≡ key_by plan.kind chart.now (place_at plan.stride plan.width vectors.now held)) × (length key.now ≡ key_size plan.kind plan.shape plan.width) }
-    ensures { Sought plan chart.now vectors.now (heads.new, links.new, marks.new) held result }
+) -> Option<usize>
+    requires { Holds plan.now vectors.now index.old held × (held ≤ plan.now.room) × Value (k_of plan.now.chart.now) plan.now.width (place_at plan.now.stride plan.now.width vectors.now held) × (key.now ≡ (made plan.now).key (place_at plan.now.stride plan.now.width vectors.now held)) × (length key.now ≡ key_size plan.now.kind plan.now.chart.now plan.now.width) }
+    ensures { Sought plan.now vectors.now index.new held result }
 {
     let number = mark(key);
-    let Place::At(j) = find(plan, chart, vectors, heads, links, marks, held, number, key) else {
-        chain(heads, links, marks, held, number);
-        return Place::Nowhere;
-    };
-    Place::At(j)
+    let found = find(plan, vectors, index, held, number, key);
+    if found.is_none() {
+        index.chain(held, number);
+    }
+    found
 }
 
-// The same, where the key is worked out here, once.
-pub fn seek(
-    plan: Plan,
-    chart: &[u8],
-    vectors: &[u8],
-    heads: &mut [u16],
-    links: &mut [u16],
-    marks: &mut [u32],
-    held: usize,
-) -> Place
-    requires { Sized chart.now plan × Holds chart.now plan vectors.now (heads.old, links.old, marks.old) held × (held ≤ plan.room) × Value plan.shape.k plan.width (place_at plan.stride plan.width vectors.now held) }
-    ensures { Sought plan chart.now vectors.now (heads.new, links.new, marks.new) held result }
+// The same, where the key is worked out here, once. There is no heap: a key has at most 385 bytes.
+pub fn seek(plan: &Plan, vectors: &[u8], index: &mut Index, held: usize) -> Option<usize>
+    requires { Holds plan.now vectors.now index.old held × (held ≤ plan.now.room) × Value (k_of plan.now.chart.now) plan.now.width (place_at plan.now.stride plan.now.width vectors.now held) }
+    ensures { Sought plan.now vectors.now index.new held result }
 {
     let from = held * plan.stride;
-    let to = from + plan.width;
-    let v = &vectors[from..to];
-    let kind = plan.kind;
-    if keyed(kind) {
-        let mut key = [0u8; 385];
-        put_key(chart, plan.shape, v, &mut key);
-        let size = plan.shape.letters * plan.shape.n + 1;
-        return look(
-            plan,
-            chart,
-            vectors,
-            heads,
-            links,
-            marks,
-            held,
-            &key[..size],
-        );
+    let v = &vectors[from..from + plan.width];
+    if keyed(plan.kind) {
+        let mut key = [0; 385];
+        put_key(plan.chart, v, &mut key);
+        let size = plan.chart.letters() * plan.chart.n() + 1;
+        look(plan, vectors, index, held, &key[..size])
+    } else {
+        look(plan, vectors, index, held, v)
     }
-    look(plan, chart, vectors, heads, links, marks, held, v)
 }

@@ -1,29 +1,25 @@
 -- The answer for a sheet's lines, from the first that does not hold. Assumes nothing.
-use mathlib.Core.Path.{◌≡◌}
+use mathlib.Core.Path.{◌≡◌, ◌∙◌}
 use mathlib.Core.Bool.{true, false}
-use mathlib.Core.List.{List, [], ◌∷◌}
-use Prim.Native.Nat.{ℕ, ◌≤◌, ◌<◌}
+use mathlib.Core.List.{List, []}
+use Prim.Native.Nat.{ℕ, ◌<◌}
+use native.Mathlib.Omega.{arith}
 use borrow.Author.Tests.{le-leb, lt-leb}
-use Rattle.paper.specs.Lists.{least_fail}
+use Rattle.paper.specs.Lists.{all_below}
 use Rattle.paper.specs.Reply.{Reply}
-use Rattle.paper.specs.Chart.{letters}
-use Rattle.paper.specs.Sheets.{grade_holds, next_holds, bad_line, line_reply}
+use Rattle.paper.specs.Sheets.{line_holds, bad_line, line_reply}
+use Rattle.lists.proofs.Tests.{all_at, least_is, least_none}
 use Rattle.lines.specs.Readable.{lines_reply}
 
--- ---- what the tests that a sheet passed tell
+module _ (c rows sheet : List ℕ) (lines : ℕ) where
+  pub all_hold : {i : ℕ} → all_below i (line_holds c rows sheet lines) ≡ true → i ≡ lines → ◌≡◌ {A = Reply} (0, []) (lines_reply c rows sheet lines)
+  unfolding lines_reply bad_line
+  all_hold a q =
+      rw
+      (least_none (line_holds c rows sheet lines) lines (all_at (line_holds c rows sheet lines) lines (rw q at a)), le-leb lines lines (omega arith))
 
-module _ (c rows sheet : List ℕ) (lines : ℕ) {i : ℕ} (e : i ≡ bad_line c rows sheet lines) where
-  pub all_hold : lines ≤ i → ◌≡◌ {A = Reply} (0, []) (lines_reply c rows sheet lines)
-  unfolding lines_reply
-  all_hold l = rw (le-leb lines (bad_line c rows sheet lines) (rw e at l))
-
-  module _ (l : i < lines) where
-    pub grade_wrong : grade_holds c rows sheet i ≡ false → ◌≡◌ {A = Reply} (12, i ∷ []) (lines_reply c rows sheet lines)
-    unfolding lines_reply line_reply
-    grade_wrong f = rw (← e, lt-leb lines i l, f)
-
-    pub next_wrong : grade_holds c rows sheet i ≡ true → (x : ℕ) → x ≡ least_fail (letters c) (next_holds c rows sheet lines i) → ◌≡◌ {A = Reply} (13, i ∷ x ∷ []) (lines_reply c rows sheet lines)
-    unfolding lines_reply line_reply
-    next_wrong f x q = rw (← e, lt-leb lines i l, f, q)
-
--- ---- the start pair
+  pub line_wrong : {i : ℕ} {r : Reply} → i < lines → all_below i (line_holds c rows sheet lines) ≡ true → (line_holds c rows sheet lines i ≡ false) × (r ≡ line_reply c rows sheet lines i) →
+      r ≡ lines_reply c rows sheet lines
+  unfolding lines_reply bad_line
+  line_wrong {i} l a f =
+      f.1 ∙ rw (least_is (line_holds c rows sheet lines) lines i l (all_at (line_holds c rows sheet lines) i a) f.0, lt-leb lines i l)

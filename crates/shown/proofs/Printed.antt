@@ -8,10 +8,9 @@ use lib.ListN.{length, get_or, length-append}
 use lib.Dec.{eqb}
 use borrow.Author.Tests.{le-leb}
 use Rattle.replies.specs.declared.Refusal.{Refusal}
-use Rattle.replies.specs.declared.Written.{Written}
-use Rattle.replies.specs.declared.Checked.{Checked}
-use Rattle.replies.specs.declared.Built.{Built}
-use Rattle.paper.specs.Reply.{Reply, fine}
+use Rattle.replies.specs.declared.Shape.{Shape}
+use Rattle.std.specs.Prelude.{Result, Ok, Err, IsOk}
+use Rattle.paper.specs.Reply.{fine}
 use Rattle.replies.specs.Replies.{said, checked_said, built_said, written_said}
 use Rattle.paper.specs.Chart.{letters}
 use Rattle.paper.specs.Check.{check_reply}
@@ -26,31 +25,37 @@ use Rattle.frames.proofs.FrameWritten.{length_frame}
 use Rattle.rows.proofs.Rows.{size_parts}
 use Rattle.chart.proofs.Checked.{fits_refused}
 use Rattle.row_lines.proofs.RowLines.{length_rows}
-use Rattle.shown.specs.Answered.{Answered, SizeOf, answer_most}
+use Rattle.shown.specs.Answered.{Answered, answer_most}
 use Rattle.shown.specs.Shown.{Shown, Sound}
 
--- ---- the size
+-- ---- a text that the printer put into a buffer
 
-pub size_known : {w : Written} {size : ℕ} → w ≡ Written.Bytes size → SizeOf w size
-size_known q n e = ap (λ (r : Reply). get_or r.1 0 0) (rw q at e)
+module _ (text old : List ℕ) {new : List ℕ} where
+  printed_ok : (w : Result ℕ Refusal) → ◌≡◌ {A = Filled} (record { reply = written_said w; buffer = new }) (printed text old) → IsOk w
+  unfolding printed
+  printed_ok (Ok n) e = refl
+  printed_ok (Err why) e = absurd (not_both (ap (λ (f : Filled). eqb f.reply.0 0) e) (said_refuses why))
 
-pub size_refused : {w : Written} {why : Refusal} → w ≡ Written.Refused why → SizeOf w 0
-size_refused {w} {why} q n e = absurd (not_both (ap (λ (r : Reply). eqb r.0 0) (rw q at e)) (said_refuses why))
-
--- a text that the printer put into a buffer
-answered : (w : Written) {text old new : List ℕ} {size : ℕ} → ◌≡◌ {A = Filled} (record { reply = written_said w; buffer = new }) (printed text old) →
-    SizeOf w size → length text ≤ length old → Answered text old new size
-unfolding printed
-answered w e s h = record { room = h; size_is = s _ (ap (λ (f : Filled). f.reply) e); front = ap (λ (f : Filled). f.buffer) e }
+  answered : {w : Result ℕ Refusal} {size : ℕ} → ◌≡◌ {A = Filled} (record { reply = written_said w; buffer = new }) (printed text old) →
+      w ≡ Ok size → length text ≤ length old → Answered text old new size
+  unfolding printed
+  answered e q h =
+      record { room = h; size_is = ap (λ (f : Filled). get_or f.reply.1 0 0) (rw q at e); front = ap (λ (f : Filled). f.buffer) e }
 
 -- ---- a refusal's line
 
-module _ (number : ℕ) (w : Written) {old new : List ℕ} {size : ℕ} (room : answer_most ≤ length old) where
-  pub refusal_answered : ◌≡◌ {A = Filled} (record { reply = written_said w; buffer = new }) (print_refusal number old) → SizeOf w size →
-      Answered (refusal_text number) old new size
-  unfolding print_refusal refusal_text
-  refusal_answered e s =
-      answered w (rw (le-leb (line_length 1) (length old) (omega arith)) at e) s (rw length_frame (omega arith))
+module _ (number : ℕ) (w : Result ℕ Refusal) (old : List ℕ) {new : List ℕ} (room : answer_most ≤ length old)
+    (e : ◌≡◌ {A = Filled} (record { reply = written_said w; buffer = new }) (print_refusal number old)) where
+  line_printed : ◌≡◌ {A = Filled} (record { reply = written_said w; buffer = new }) (printed (refusal_text number) old)
+  unfolding print_refusal
+  line_printed = rw (le-leb (line_length 1) (length old) (omega arith)) at e
+
+  pub refusal_ok : IsOk w
+  refusal_ok = printed_ok (refusal_text number) old w line_printed
+
+  pub refusal_answered : {size : ℕ} → w ≡ Ok size → Answered (refusal_text number) old new size
+  unfolding refusal_text
+  refusal_answered q = answered (refusal_text number) old line_printed q (rw length_frame (omega arith))
 
 -- ---- a table's text
 
@@ -70,20 +75,22 @@ module _ {c table : List ℕ} {count : ℕ} (t : Shown c table count) where
   most : table_text_size count (letters c) ≤ answer_most
   most = let lines = product {a = count} {b = 9 + 4 * letters c} {c = 128} {d = 73} t.few (omega (arith, parts.3)) in omega arith
 
-  module _ (w : Written) {old new : List ℕ} {size : ℕ} (room : answer_most ≤ length old) where
-    pub table_answered : (m : ℕ) → m ≡ letters c → ◌≡◌ {A = Filled} (record { reply = written_said w; buffer = new }) (print_table c table count m old) →
-        SizeOf w size → Answered (table_text c table count (letters c)) old new size
+  module _ (w : Result ℕ Refusal) (old : List ℕ) {new : List ℕ} (room : answer_most ≤ length old) (m : ℕ) (q : m ≡ letters c)
+      (e : ◌≡◌ {A = Filled} (record { reply = written_said w; buffer = new }) (print_table c table count m old)) where
+    table_printed : ◌≡◌ {A = Filled} (record { reply = written_said w; buffer = new }) (printed (table_text c table count (letters c)) old)
     unfolding print_table
-    table_answered m q e s =
-        answered
-        w
-        (rw (q, t.chart, le-leb (table_text_size count (letters c)) (length old) (omega (arith, most)), t.fits) at e)
-        s
-        (rw (length_table c table count (letters c) parts.4) (omega (arith, most)))
+    table_printed = rw (q, t.chart, le-leb (table_text_size count (letters c)) (length old) (omega (arith, most)), t.fits) at e
+
+    pub table_ok : IsOk w
+    table_ok = printed_ok (table_text c table count (letters c)) old w table_printed
+
+    pub table_answered : {size : ℕ} → w ≡ Ok size → Answered (table_text c table count (letters c)) old new size
+    table_answered p = answered (table_text c table count (letters c)) old table_printed p (rw (length_table c table count (letters c) parts.4) (omega (arith, most)))
 
   -- its chart is not refused
-  pub not_refused : {r : Checked} {why : Refusal} → checked_said r ≡ check_reply c → r ≡ Checked.Refused why → ⊥
-  not_refused reply e = not_both t.chart (fits_refused c reply e)
+  pub chart_ok : (r : Result Shape Refusal) → checked_said r ≡ check_reply c → IsOk r
+  chart_ok (Ok s) reply = refl
+  chart_ok (Err why) reply = absurd (not_both t.chart (fits_refused c reply refl))
 
 -- ---- from what a builder answered
 
@@ -95,5 +102,5 @@ pub built_states : (c table : List ℕ) (count : ℕ) → table_text c table cou
 unfolding built_text or_refusal
 built_states c table count = refl
 
-pub sound_shown : {c table : List ℕ} {b : Built} {count : ℕ} → b ≡ Built.States count → Sound c table (built_said b) → Shown c table count
+pub sound_shown : {c table : List ℕ} {b : Result ℕ Refusal} {count : ℕ} → b ≡ Ok count → Sound c table (built_said b) → Shown c table count
 sound_shown q h = rw q at h refl

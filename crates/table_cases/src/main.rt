@@ -5,39 +5,11 @@
 #![tactic(auto)]
 
 use bench::reader::read_word;
+use cases::{print_answer, print_values, print_verdict};
 use places::vector_at;
-use replies::{Graded, Stepped};
 use std::io::{self, Read};
 use steps::{grade, step};
 use tables::{check_table, grade_word};
-
-fn print_step(rt: &impl Print, stepped: Stepped) -> io::Result<()> {
-    match stepped {
-        Stepped::Next(state) => {
-            cases::print_success(rt)?;
-            cases::print_value(rt, state as usize)?;
-        }
-        Stepped::Refused(why) => cases::print_refusal(rt, why)?,
-    }
-    cases::end_line(rt)
-}
-
-fn print_grade(rt: &impl Print, graded: Graded) -> io::Result<()> {
-    match graded {
-        Graded::Grade(g) => {
-            cases::print_success(rt)?;
-            cases::print_value(rt, g as usize)?;
-        }
-        Graded::Refused(why) => cases::print_refusal(rt, why)?,
-    }
-    cases::end_line(rt)
-}
-
-fn print_vector(rt: &impl Print, vector: &[u8]) -> io::Result<()> {
-    cases::print_success(rt)?;
-    cases::print_bytes(rt, vector)?;
-    cases::end_line(rt)
-}
 
 fn answer_walk<R: Read>(
     rt: &impl Print,
@@ -50,11 +22,12 @@ fn answer_walk<R: Read>(
     let letter = cases::number(input)?;
     let mut word = cases::buffer();
     let size = cases::part(input, &mut word)?;
-    print_step(rt, step(rows, count, m, state, letter))?;
-    print_grade(rt, grade(rows, count, m, state))?;
-    print_grade(rt, grade_word(rows, count, m, &word[..size]))?;
-    print_grade(rt, read_word(rows, count, m, &word[..size]))?;
-    print_vector(rt, vector_at(rows, m, count, state))
+    let word = &word[..size];
+    print_answer(rt, step(rows, count, m, state, letter).map(|next| [next]))?;
+    print_answer(rt, grade(rows, count, m, state).map(|grade| [grade]))?;
+    print_answer(rt, grade_word(rows, count, m, word).map(|grade| [grade]))?;
+    print_answer(rt, read_word(rows, count, m, word).map(|grade| [grade]))?;
+    print_values(rt, vector_at(rows, m, count, state))
 }
 
 fn answer_walks<R: Read>(
@@ -64,10 +37,7 @@ fn answer_walks<R: Read>(
     count: usize,
     m: usize,
 ) -> io::Result<()> {
-    for _ in 0..cases::number(input)? {
-        answer_walk(rt, input, rows, count, m)?;
-    }
-    Ok(())
+    cases::answer_each(input, |input| answer_walk(rt, input, rows, count, m))
 }
 
 fn answer_next<R: Read>(rt: &impl Print, input: &mut R) -> io::Result<()> {
@@ -75,14 +45,10 @@ fn answer_next<R: Read>(rt: &impl Print, input: &mut R) -> io::Result<()> {
     let size = cases::part(input, &mut rows)?;
     let count = cases::number(input)?;
     let m = cases::number(input)?;
-    cases::print_verdict(rt, check_table(&rows[..size], count, m))?;
+    print_verdict(rt, check_table(&rows[..size], count, m))?;
     answer_walks(rt, input, &rows[..size], count, m)
 }
 
 fn main(rt: HostRuntime) -> io::Result<()> {
-    let mut input = rt.stdin();
-    for _ in 0..cases::number(&mut input)? {
-        answer_next(&rt, &mut input)?;
-    }
-    Ok(())
+    cases::answer_each(&mut rt.stdin(), |input| answer_next(&rt, input))
 }

@@ -1,6 +1,7 @@
 -- The walk over a table whose rows fit, and the answer of grading a word.
-use mathlib.Core.Path.{◌≡◌, sym, ◌∙◌}
-use mathlib.Core.Bool.{true, false}
+use Rattle.std.specs.Prelude.{Option, Some, None}
+use mathlib.Core.Path.{◌≡◌, sym, ap, ◌∙◌}
+use mathlib.Core.Bool.{Bool, true, false}
 use mathlib.Core.List.{List, [], ◌∷◌}
 use Prim.Native.Nat.{ℕ, ◌+◌, ◌≤◌, ◌<◌}
 use native.Mathlib.Numerals.{add-one}
@@ -8,17 +9,23 @@ use native.Mathlib.Omega.{arith}
 use lib.ListN.{length, get_or, drop}
 use lib.Seq.{drop-cons, drop-length}
 use borrow.Author.Tests.{le-ltb, lt-ltb, le-leb, lt-leb, ltb-true}
-use Rattle.paper.specs.Lists.{all_below}
+use lib.Dec.{eqb}
+use Rattle.paper.specs.Lists.{unless}
 use Rattle.paper.specs.Reply.{Reply}
 use Rattle.paper.specs.Words.{after}
 use Rattle.paper.specs.Tables.{grade_at, next_at, row_fits, table_fits, next_by, state_of, table_grade, letter_fits, bad_letter, word_reply, grade_top, table_reply}
 use Rattle.rows.specs.RowIn.{RowIn}
 use Rattle.tables.specs.Walking.{Walkable}
 use Rattle.places.specs.Search.{place_for}
-use Rattle.places.specs.declared.Place.{Place}
-use Rattle.places.proofs.Search.{answer_at, answer_none}
+use Rattle.places.proofs.Search.{answered_at, answered_none, answer_at, answer_none}
+use Rattle.std.specs.List.{AllWithin, HoldsAt}
+use Rattle.std.specs.Option.{MatchOption}
+use Rattle.replies.specs.declared.Refusal.{Refusal}
+use Rattle.replies.specs.Replies.{said}
+use Rattle.replies.proofs.Said.{said_refuses}
+use Rattle.lists.proofs.Tests.{not_both, unless_passed}
 use Rattle.rows.proofs.TableTest.{table_parts}
-use Rattle.lists.proofs.Tests.{all_at, all_by, all_more, least_none, least_is, least_all}
+use Rattle.lists.proofs.Tests.{all_at, all_by, least_none, least_is, least_all}
 use Rattle.rows.proofs.Rows.{row_in, row_next, size_parts}
 
 -- what checking a table answers
@@ -30,6 +37,12 @@ module _ (rows : List ℕ) (count m : ℕ) where
   pub table_accepted : table_fits rows count m grade_top ≡ true → ◌≡◌ {A = Reply} (0, []) (table_reply rows count m)
   unfolding table_reply
   table_accepted e = simp e
+
+  pub passed : ◌≡◌ {A = Reply} (0, []) (table_reply rows count m) → table_fits rows count m grade_top ≡ true
+  unfolding table_reply
+  passed e =
+      let refuses : ◌≡◌ {A = Reply} (0, []) (9, []) → ⊥ = λ h. let z : ◌≡◌ {A = ℕ} 0 9 = ap (λ (r : Reply). r.0) h in omega arith in
+      (unless_passed (λ (r : Reply). (0, []) ≡ r) (table_fits rows count m grade_top) _ _ refuses e).0
 
 -- one letter more of the walk
 pub walk_more : (rows : List ℕ) (m s : ℕ) (word : List ℕ) (i x s' t : ℕ) → i < length word → x ≡ get_or word i 0 → s' ≡ next_at rows m s x → after (next_by rows m) s (drop i word) ≡ t → after (next_by rows m) s' (drop (i + 1) word) ≡ t
@@ -58,37 +71,38 @@ module _ (rows : List ℕ) (count m : ℕ) (word : List ℕ) (w : Walkable rows 
   pub walk_some : 0 < count
   walk_some = (size_parts rows count m (table_parts rows count m 16 w.table).0).0
 
--- the first letter that is not one of m, from the tests that the code makes
-module _ (word : List ℕ) (m : ℕ) where
-  pub bad_is : (i : ℕ) → i < length word → all_below i (letter_fits word m) ≡ true → m ≤ get_or word i 0 → bad_letter word m ≡ i
-  unfolding bad_letter letter_fits
-  bad_is i l e h = least_is (letter_fits word m) (length word) i l (all_at (letter_fits word m) i e) (le-ltb (get_or word i 0) m h)
+-- the first letter that is not one of m, as `position` tells of it
+pub bad_by : (word : List ℕ) (m : ℕ) (r : Option ℕ) →
+    MatchOption r (AllWithin (λ x. x < m) word 0 (length word)) (λ i. (i < length word) × HoldsAt (λ x. m ≤ x) word i × AllWithin (λ x. x < m) word 0 i) →
+    r ≡ place_for (length word) (bad_letter word m)
+unfolding bad_letter letter_fits
+bad_by word m None all = answered_none _ _ (least_none (letter_fits word m) (length word) (λ i l. lt-ltb _ _ (all i 0 (omega arith) l)))
+bad_by word m (Some i) at =
+    answered_at _ _ i
+    (least_is (letter_fits word m) (length word) i at.0 (λ j l. lt-ltb _ _ (at.2 j 0 (omega arith) l)) (le-ltb _ _ (at.1 0)))
+    at.0
 
-  pub bad_none : (i : ℕ) → i ≡ length word → all_below i (letter_fits word m) ≡ true → bad_letter word m ≡ length word
-  unfolding bad_letter
-  bad_none i q e = least_none (letter_fits word m) (length word) (all_at (letter_fits word m) (length word) (rw q at e))
-
-  pub more_letter : (i : ℕ) → all_below i (letter_fits word m) ≡ true → get_or word i 0 < m → all_below (i + 1) (letter_fits word m) ≡ true
-  unfolding letter_fits
-  more_letter i e h = all_more (letter_fits word m) i e (lt-ltb (get_or word i 0) m h)
-
--- what grading a word answers, case by case
+-- what grading a word answers, from what checking its table answers
 module _ (rows : List ℕ) (count m : ℕ) (word : List ℕ) where
-  pub word_table : table_fits rows count m 16 ≡ false → ◌≡◌ {A = Reply} (9, []) (word_reply rows count m word)
-  unfolding word_reply
-  word_table e = simp (word_reply, e)
+  pub word_table : (why : Refusal) → said why ≡ table_reply rows count m → said why ≡ word_reply rows count m word
+  unfolding table_reply word_reply
+  word_table why e = go (table_fits rows count m grade_top) _ e
+    where
+      go : (b : Bool) (rest : Reply) → said why ≡ unless b (9, []) (0, []) → said why ≡ unless b (9, []) rest
+      go true rest h = absurd (not_both (ap (λ (r : Reply). eqb r.0 0) h) (said_refuses why))
+      go false rest h = h
 
-  module _ (f : Place) (e : table_fits rows count m 16 ≡ true) (q : f ≡ place_for (length word) (bad_letter word m)) where
-    pub word_letter : (i : ℕ) → f ≡ Place.At i → ◌≡◌ {A = Reply} (8, i ∷ []) (word_reply rows count m word)
+  module _ (e : table_fits rows count m grade_top ≡ true) {f : Option ℕ} (q : f ≡ place_for (length word) (bad_letter word m)) where
+    pub word_letter : {i : ℕ} → f ≡ Some i → ◌≡◌ {A = Reply} (8, i ∷ []) (word_reply rows count m word)
     unfolding word_reply
-    word_letter i h =
+    word_letter {i} h =
         let p = answer_at (length word) (bad_letter word m) i (sym q ∙ h) in
         simp (word_reply, e, p.1, lt-leb (length word) i (omega arith))
 
-    pub word_walkable : f ≡ Place.Nowhere → Walkable rows count m word
+    pub word_walkable : f ≡ None → Walkable rows count m word
     unfolding bad_letter
     word_walkable h = record { table = e; letters = all_by (letter_fits word m) (length word) (least_all (letter_fits word m) (length word) (answer_none (length word) (bad_letter word m) (sym q ∙ h))) }
 
-    pub word_grade : f ≡ Place.Nowhere → (g : ℕ) → g ≡ table_grade rows m word → ◌≡◌ {A = Reply} (0, g ∷ []) (word_reply rows count m word)
+    pub word_grade : f ≡ None → {g : ℕ} → g ≡ table_grade rows m word → ◌≡◌ {A = Reply} (0, g ∷ []) (word_reply rows count m word)
     unfolding word_reply
-    word_grade h g k = simp (word_reply, e, le-leb (length word) (bad_letter word m) (answer_none (length word) (bad_letter word m) (sym q ∙ h)), k)
+    word_grade h k = simp (word_reply, e, le-leb (length word) (bad_letter word m) (answer_none (length word) (bad_letter word m) (sym q ∙ h)), k)

@@ -7,32 +7,24 @@ ghost use Rattle.replies.specs.Replies.{verdict_said, graded_said};
 ghost use Rattle.tables.specs.Walking.{Walkable};
 ghost use Rattle.places.specs.Search.{place_for};
 
-use places::Place;
-use replies::{Graded, Refusal, Verdict};
-use rows::{GRADE_TOP, grade_at, next_at, table_fits, wide};
+use replies::Refusal;
+use rows::{GRADE_TOP, grade_at, next_at, table_fits};
 
 // Whether a table, by itself, is one that can be walked from every state.
-pub fn check_table(rows: &[u8], count: usize, m: usize) -> Verdict
+pub fn check_table(rows: &[u8], count: usize, m: usize) -> Result<(), Refusal>
     ensures { verdict_said result ≡ table_reply rows.now count m }
 {
     if !table_fits(rows, count, m, GRADE_TOP) {
-        return Verdict::Refused(Refusal::Table);
+        return Err(Refusal::Table);
     }
-    Verdict::Accepted
+    Ok(())
 }
 
 // The first place of a word whose letter is not one of m.
-fn bad_letter(word: &[u8], m: usize) -> Place
+fn bad_letter(word: &[u8], m: usize) -> Option<usize>
     ensures { result ≡ place_for (length word.now) (bad_letter word.now m) }
 {
-    let mut i = 0;
-    while i < word.len() {
-        if m <= wide(word[i]) {
-            return Place::At(i);
-        }
-        i += 1;
-    }
-    Place::Nowhere
+    word.iter().position(|letter| m <= usize::from(*letter))
 }
 
 fn walk(rows: &[u8], count: usize, m: usize, word: &[u8]) -> u8
@@ -40,23 +32,19 @@ fn walk(rows: &[u8], count: usize, m: usize, word: &[u8]) -> u8
     ensures { result ≡ table_grade rows.now m word.now }
 {
     let mut s = 0;
-    let mut i = 0;
-    while i < word.len() {
-        s = next_at(rows, m, s, wide(word[i]));
-        i += 1;
+    for letter in word {
+        s = next_at(rows, m, s, usize::from(*letter));
     }
     grade_at(rows, m, s)
 }
 
 // The grade of a word: the whole table is checked first, then all letters.
-pub fn grade_word(rows: &[u8], count: usize, m: usize, word: &[u8]) -> Graded
+pub fn grade_word(rows: &[u8], count: usize, m: usize, word: &[u8]) -> Result<u8, Refusal>
     ensures { graded_said result ≡ word_reply rows.now count m word.now }
 {
-    if !table_fits(rows, count, m, GRADE_TOP) {
-        return Graded::Refused(Refusal::Table);
-    }
+    check_table(rows, count, m)?;
     match bad_letter(word, m) {
-        Place::At(i) => Graded::Refused(Refusal::Letter { at: i }),
-        Place::Nowhere => Graded::Grade(walk(rows, count, m, word)),
+        Some(at) => Err(Refusal::Letter { at }),
+        None => Ok(walk(rows, count, m, word)),
     }
 }

@@ -18,9 +18,5 @@ fn answer_next<R: Read>(rt: &impl Print, input: &mut R) -> io::Result<()> {
 }
 
 fn main(rt: HostRuntime) -> io::Result<()> {
-    let mut input = rt.stdin();
-    for _ in 0..cases::number(&mut input)? {
-        answer_next(&rt, &mut input)?;
-    }
-    Ok(())
+    cases::answer_each(&mut rt.stdin(), |input| answer_next(&rt, input))
 }

@@ -27,27 +27,27 @@ hex_digit : (n : ℕ) → n < 16 → digit_of (hex_of n) ≡ n
 hex_digit n h = go (ltb n 10) refl
   where
     go : (b : Bool) → ltb n 10 ≡ b → digit_of (pick b (48 + n) (87 + n)) ≡ n
-    go true q = let k = ltb-true n 10 q in sym (digit_low (48 + n) (omega arith) (omega arith)).0 ∙ omega arith
-    go false q = let k = ltb-false n 10 q in sym (digit_high (87 + n) (omega arith) (omega arith)).0 ∙ omega arith
+    go true q = let k = ltb-true n 10 q in sym (digit_low (48 + n) (omega arith) (omega arith)) ∙ omega arith
+    go false q = let k = ltb-false n 10 q in sym (digit_high (87 + n) (omega arith) (omega arith)) ∙ omega arith
 
 -- a byte that is a digit is that of its number
 digit_hex : (c : ℕ) → digit_of c < 16 → hex_of (digit_of c) ≡ c
 digit_hex c h = go (leb 48 c) refl (leb c 57) refl (leb 97 c) refl (leb c 102) refl
   where
     low : 48 ≤ c → c ≤ 57 → hex_of (digit_of c) ≡ c
-    low a b = rw (← (digit_low c a b).0, lt-ltb (c - 48) 10 (omega arith)) (omega arith)
+    low a b = rw (← digit_low c a b, lt-ltb (c - 48) 10 (omega arith)) (omega arith)
 
     high : 97 ≤ c → c ≤ 102 → hex_of (digit_of c) ≡ c
-    high a b = rw (← (digit_high c a b).0, le-ltb (c - 87) 10 (omega arith)) (omega arith)
+    high a b = rw (← digit_high c a b, le-ltb (c - 97 + 10) 10 (omega arith)) (omega arith)
 
     never : {A : Type 0} → 16 ≡ digit_of c → A
     never e = absurd (omega arith)
 
     go : (b₁ : Bool) → leb 48 c ≡ b₁ → (b₂ : Bool) → leb c 57 ≡ b₂ → (b₃ : Bool) → leb 97 c ≡ b₃ → (b₄ : Bool) → leb c 102 ≡ b₄ → hex_of (digit_of c) ≡ c
-    go false q₁ b₂ q₂ b₃ q₃ b₄ q₄ = never (digit_below c (leb-false 48 c q₁)).0
+    go false q₁ b₂ q₂ b₃ q₃ b₄ q₄ = never (digit_below c (leb-false 48 c q₁))
     go true q₁ true q₂ b₃ q₃ b₄ q₄ = low (leb-true 48 c q₁) (leb-true c 57 q₂)
-    go true q₁ false q₂ false q₃ b₄ q₄ = never (digit_between c (leb-false c 57 q₂) (leb-false 97 c q₃)).0
-    go true q₁ false q₂ true q₃ false q₄ = never (digit_above c (leb-false c 102 q₄)).0
+    go true q₁ false q₂ false q₃ b₄ q₄ = never (digit_between c (leb-false c 57 q₂) (leb-false 97 c q₃))
+    go true q₁ false q₂ true q₃ false q₄ = never (digit_above c (leb-false c 102 q₄))
     go true q₁ false q₂ true q₃ true q₄ = high (leb-true 97 c q₃) (leb-true c 102 q₄)
 
 hexed_append : (xs ys : List ℕ) → hexed (xs ++ ys) ≡ hexed xs ++ hexed ys
@@ -148,10 +148,7 @@ module _ (kind : ℕ) (p text : List ℕ) (pos : ℕ) (small : kind < 256) (few 
   frame_read =
       let w = length p in
       sym
-      (frame_rest kind w text pos (byte_at text pos) (byte_at text (pos + 2)) (byte_at text (pos + 4)) (get_or text (pos + digits_length w) 0) true refl
-      (byte_read 0 pos (omega arith) (omega arith))
-      refl
-      refl
+      (frame_rest kind w text pos (get_or text (pos + digits_length w) 0) true (sym (byte_read 0 pos (omega arith) (omega arith)))
       (rw (byte_read 1 (pos + 2) (omega arith) (omega arith), byte_read 2 (pos + 4) (omega arith) (omega arith)) (omega arith))
       refl
       (same (digits_length w) (omega arith) ∙ frame_newline kind p)

@@ -1,5 +1,5 @@
 -- A whole construction: the first value, the walk from it, and zeros in the places after the kept ones. Assumes nothing.
-use mathlib.Core.Path.{◌≡◌, sym, ap, ap₂, subst, ◌∙◌}
+use mathlib.Core.Path.{◌≡◌, sym, ap, ap₂, ◌∙◌}
 use mathlib.Core.List.{List, [], append_assoc}
 use Prim.Native.Nat.{ℕ, suc, ◌+◌, ◌-◌, ◌*◌, ◌≤◌, ◌<◌}
 use native.Mathlib.Nat.{zero-add, zero-mul, suc-mul, mul_comm, mul-sub, mul-le-mul_right}
@@ -9,27 +9,23 @@ use native.Mathlib.Decide.{dec_lt}
 use lib.ListN.{length, get_or, take, drop, replicate, length-take, length-drop}
 use lib.Seq.{drop-drop, ext_get_or}
 use borrow.Rule.Slice.PartMut.{put_mid, mid_of}
-use borrow.Author.Tests.{le-ltb}
 use Rattle.paper.specs.Lists.{tabulate, joined, part, in_front, zeros}
-use Rattle.paper.specs.Numbering.{place}
+use Rattle.paper.specs.Chart.{k_of, letters}
 use Rattle.paper.specs.Constructions.{states_of, table_of}
 use Rattle.paper.specs.Builders.{place_of, placed}
 use Rattle.lists.proofs.ByPlace.{joined_cong, length_part, get_or_part}
 use Rattle.lists.proofs.Lent.{length_in_front, get_or_in_front, get_or_behind}
 use Rattle.numbering.proofs.Rest.{rest_start}
-use Rattle.places.specs.Search.{place_at, values, place_for}
+use Rattle.places.specs.Search.{place_at, values}
 use Rattle.places.proofs.Search.{length_values, values_at}
-use Rattle.marks.specs.Chains.{buckets}
-use Rattle.marks.proofs.ChainLaws.{chained_none}
 use Rattle.kinds.specs.Kinds.{made}
 use Rattle.kinds.specs.Ready.{Value}
 use Rattle.places.specs.Memory.{spliced, Apart}
-use Rattle.search.specs.Kept.{kept_in, Index, Holds, held_with, Sought}
-use Rattle.walk.specs.Walked.{walked, WalkAsks, Walked, WalkedAs, GrowAsks, states_by, Made}
-use Rattle.places.specs.declared.Place.{Place}
-use Rattle.kinds.specs.declared.Plan.{Plan}
-use Rattle.nexts.specs.declared.Grown.{Grown}
-use Rattle.nexts.specs.declared.Grown.TheVariants.{Held, Full}
+use Rattle.marks.specs.declared.chains.Index.{Index}
+use Rattle.marks.specs.Chains.{Chained}
+use Rattle.search.specs.Kept.{kept_in, Holds}
+use Rattle.walk.specs.Walked.{walked, Walked, GrowAsks, states_by, Made}
+use Rattle.kinds.specs.declared.plan.Plan.{Plan}
 use Rattle.places.proofs.Memory.{joined_part, length_place, place_byte, place_here, apart_spliced, apart_trans}
 use Rattle.kinds.proofs.KindLaws.{made_first}
 
@@ -94,91 +90,64 @@ module _ (stride w h room : ℕ) (vs : List (List ℕ)) (old buf : List ℕ) (in
 
 -- ---- the first value in place 0
 
--- where no place is held, a search finds none
-nowhere : (i : ℕ) → place_for 0 i ≡ Place.Nowhere
-nowhere i = simp (le-ltb i 0 (omega arith))
-
 front_spliced : (stride : ℕ) (new old : List ℕ) → in_front new old ≡ spliced (0 * stride) new old
 unfolding in_front spliced
 front_spliced stride new old = rw (zero-mul, zero-add)
 
-module _ (p : Plan) (c t table old first : List ℕ) (a : GrowAsks p c t table old) (wrote : first ≡ in_front (made p c t).first old) where
-  value : Value p.shape.k p.width (made p c t).first
-  value = made_first a.ready
+module _ (p : Plan) (table old first : List ℕ) (a : GrowAsks p table old) (wrote : first ≡ in_front (made p).first old) where
+  value : Value (k_of p.chart.now) p.width (made p).first
+  value = made_first p
 
   inside : p.width ≤ p.stride
-  inside = a.ready.sized.inside
+  inside = p.ready.inside
 
-  whole : first ≡ spliced (0 * p.stride) (made p c t).first old
-  whole = wrote ∙ front_spliced p.stride (made p c t).first old
+  whole : first ≡ spliced (0 * p.stride) (made p).first old
+  whole = wrote ∙ front_spliced p.stride (made p).first old
 
   roomy : 0 * p.stride + p.width ≤ length old
   roomy = omega (arith, zero-mul p.stride, suc-mul p.room p.stride, a.fits, inside)
 
   begun : Apart p.stride p.width (suc p.room) old first
-  begun = rw whole (apart_spliced p.stride p.width 0 (made p c t).first old value.long inside roomy (suc p.room) (omega arith))
+  begun = rw whole (apart_spliced p.stride p.width 0 (made p).first old value.long inside roomy (suc p.room) (omega arith))
 
-  here : place_at p.stride p.width first 0 ≡ (made p c t).first
-  here = rw whole (place_here p.stride p.width 0 (made p c t).first old value.long inside (omega (arith, zero-mul p.stride)))
+  here : place_at p.stride p.width first 0 ≡ (made p).first
+  here = rw whole (place_here p.stride p.width 0 (made p).first old value.long inside (omega (arith, zero-mul p.stride)))
 
-  pub first_value : Value p.shape.k p.width (place_at p.stride p.width first 0)
+  pub first_value : Value (k_of p.chart.now) p.width (place_at p.stride p.width first 0)
   first_value = rw here value
 
-  -- no place is held, and the index is empty
-  pub none_held : (heads links marks : List ℕ) → heads ≡ replicate buckets 0 → 4097 ≡ length links → 4097 ≡ length marks → Holds c p first (heads, links, marks) 0
-  none_held heads links marks e l m =
+  -- no place is held
+  pub none_held : {index : Index} → Chained index 0 → Holds p first index 0
+  none_held k =
       record {
-        valued =
-            record {
-              fits = rw begun.long a.fits;
-              roomy = omega (arith, a.ready.sized.room_high);
-              values = λ s b. absurd (omega arith);
-              marked = λ s b. absurd (omega arith);
-            };
-        linked = omega (arith, a.ready.sized.room_high);
-        chained = chained_none heads links marks e;
-      }
-
-  pub one_held : (index : Index) (found : Place) → Sought p c first index 0 found → WalkAsks p c t table first index
-  one_held index found s =
-      let n : found ≡ Place.Nowhere = s.answer ∙ nowhere (place (made p c t).key (kept_in p 0 first) (place_at p.stride p.width first 0)) in
-      record {
-        ready = a.ready;
-        holds = subst (λ (f : Place). Holds c p first index (held_with 0 f)) n s.holds;
-        table_fits = a.table_fits;
+        valued = record { fits = rw begun.long a.fits; values = λ s b. absurd (omega arith); marked = λ s b. absurd (omega arith) };
+        chained = k;
       }
 
   -- the walk from it lists the construction's states
-  walk_states : walked p c t first ≡ states_by p c t
+  walk_states : walked p first ≡ states_by p
   unfolding values tabulate states_of
-  walk_states = rw here (rest_start (made p c t).key (made p c t).step p.shape.letters p.room (made p c t).first)
+  walk_states = rw here (rest_start (made p).key (made p).step (letters p.chart.now) p.room (made p).first)
 
-  module _ (table' new : List ℕ) (r : Grown) (w : WalkedAs p c t table table' first new r) where
-    pub made_full : r ≡ Full → p.room < length (states_by p c t)
-    made_full e = rw (← walk_states) (subst (λ (g : Grown). WalkedAs p c t table table' first new g) e w)
+  pub made_full : p.room < length (walked p first) → p.room < length (states_by p)
+  made_full b = rw walk_states at b
 
-    module _ (h : ℕ) (e : r ≡ Held h) where
-      done : Walked p c t table table' first new h
-      done = subst (λ (g : Grown). WalkedAs p c t table table' first new g) e w
+  module _ (table' new : List ℕ) (h : ℕ) (done : Walked p table table' first new h) where
+    listed : kept_in p h new ≡ states_by p
+    listed = done.listed ∙ walk_states
 
-      pub few : h ≤ p.room
-      few = done.roomy
+    kept_apart : Apart p.stride p.width (suc p.room) old new
+    kept_apart = apart_trans begun done.apart
 
-      listed : kept_in p h new ≡ states_by p c t
-      listed = done.listed ∙ walk_states
+    fits_still : suc p.room * p.stride ≤ length new
+    fits_still = rw kept_apart.long a.fits
 
-      kept_apart : Apart p.stride p.width (suc p.room) old new
-      kept_apart = apart_trans begun done.apart
-
-      pub fits_still : suc p.room * p.stride ≤ length new
-      fits_still = rw kept_apart.long a.fits
-
-      pub made_done : (z : List ℕ) → z ≡ zeros (mid_of (h * p.stride) ((p.room + 1) * p.stride - h * p.stride) new) →
-          Made p c t table table' old (put_mid (h * p.stride) ((p.room + 1) * p.stride - h * p.stride) new z) h
-      made_done z ez =
-          record {
-            count_is = sym (length_values p.stride p.width h new) ∙ ap length listed;
-            roomy = few;
-            table_is = done.table_is ∙ ap (λ (vs : List (List ℕ)). in_front (table_of (made p c t) p.shape.letters vs) table) walk_states;
-            vectors_is = zeroed p.stride p.width h p.room (states_by p c t) old new inside listed kept_apart few fits_still z ez;
-          }
+    pub made_done : (z : List ℕ) → z ≡ zeros (mid_of (h * p.stride) ((p.room + 1) * p.stride - h * p.stride) new) →
+        Made p table table' old (put_mid (h * p.stride) ((p.room + 1) * p.stride - h * p.stride) new z) h
+    made_done z ez =
+        record {
+          count_is = sym (length_values p.stride p.width h new) ∙ ap length listed;
+          roomy = done.roomy;
+          table_is = done.table_is ∙ ap (λ (vs : List (List ℕ)). in_front (table_of (made p) (letters p.chart.now) vs) table) walk_states;
+          vectors_is = zeroed p.stride p.width h p.room (states_by p) old new inside listed kept_apart done.roomy fits_still z ez;
+        }

@@ -5,52 +5,44 @@ use mathlib.Core.List.{List}
 use Prim.Native.Nat.{ℕ, ◌≤◌}
 use native.Mathlib.Omega.{arith}
 use lib.ListN.{length}
+use Rattle.paper.specs.Chart.{n_of, letters}
 use Rattle.paper.specs.Check.{chart_fits}
-use Rattle.paper.specs.Builders.{room_fits}
-use Rattle.replies.specs.declared.Shape.{Shape}
-use Rattle.cells.specs.Shaped.{Shaped}
-use Rattle.kinds.specs.Kinds.{of_vectors}
-use Rattle.kinds.specs.Ready.{WidthFits}
+use Rattle.algebra.proofs.Checked.{fits_ranged, head_sizes}
+use Rattle.kinds.specs.Kinds.{made_by}
+use Rattle.kinds.specs.Ready.{of_vectors, Ready}
 use Rattle.walk.specs.Walked.{GrowAsks}
 use Rattle.kinds.specs.declared.Kind.{Kind}
 use Rattle.kinds.specs.declared.Kind.TheVariants.{Nerode, Reduced, Reverse, Rows}
-use Rattle.kinds.specs.declared.Plan.{Plan}
-use Rattle.rooms.proofs.Rooms.{roomy}
-
-wide : (k : Kind) (s : Shape) → of_vectors k ≡ true → WidthFits k s s.n
-wide Nerode s e = refl
-wide Reduced s e = refl
-wide Reverse s e = refl
-wide Rows s e = absurd (false≢true e)
+use Rattle.kinds.specs.declared.plan.Plan.{Plan}
+use Rattle.rooms.proofs.Rooms.{Roomy}
 
 -- it is not that of rows
 no_rows : (k : Kind) → of_vectors k ≡ true → k ≡ Kind.Rows → ⊥
 no_rows k e q = false≢true (ap of_vectors (sym q) ∙ e)
 
--- the plan for it
-abbrev pub vector_plan : Kind → Shape → ℕ → Plan
-vector_plan kind s room = record { kind = kind; shape = s; width = s.n; stride = s.n; room = room }
+-- no reverse table is read
+pub made_alike : (k : Kind) (c t t' : List ℕ) (m r : ℕ) → of_vectors k ≡ true → made_by k c t m r ≡ made_by k c t' m r
+made_alike Nerode c t t' m r e = refl
+made_alike Reduced c t t' m r e = refl
+made_alike Reverse c t t' m r e = refl
+made_alike Rows c t t' m r e = absurd (false≢true e)
 
-module _ (kind : Kind) (c : List ℕ) (s : Shape) (v : of_vectors kind ≡ true) (fits : chart_fits c ≡ true) (h : Shaped c s) where
-  pub vector_asks : (most room : ℕ) (t table vectors : List ℕ) → most ≤ 4096 → room_fits most s.letters s.n room (length table) (length vectors) ≡ true →
-      GrowAsks (vector_plan kind s room) c t table vectors
-  vector_asks most room t table vectors l r =
-      let a = roomy most s.letters s.n room (length table) (length vectors) r in
+module _ (kind : Kind) (c : List ℕ) (v : of_vectors kind ≡ true) (fits : chart_fits c ≡ true) {most n room table vectors : ℕ} (r : Roomy most (letters c) (n_of c) room table vectors)
+    (l : most ≤ 4096) where
+  pub vector_ready : (t : List ℕ) → n ≡ n_of c → Ready kind c t n n room
+  vector_ready t e =
+      let z = head_sizes c (fits_ranged c fits) in
       record {
-        ready =
-            record {
-              sized =
-                  record {
-                    fits = fits;
-                    shaped = h;
-                    width = wide kind s v;
-                    inside = omega arith;
-                    stride_high = omega (arith, h.sizes.n_high);
-                    room_low = a.low;
-                    room_high = omega (arith, a.high);
-                  };
-              reverses = λ e. absurd (no_rows kind v e);
-            };
-        table_fits = a.rows;
-        fits = a.places;
+        fits = fits;
+        vectors = λ _. e;
+        rows = λ q. absurd (no_rows kind v q);
+        width_low = omega (arith, z.n_low);
+        inside = omega arith;
+        stride_high = omega (arith, z.n_high);
+        room_low = r.low;
+        room_high = omega (arith, r.high);
       }
+
+pub vector_asks : (p : Plan) {most : ℕ} {table vectors : List ℕ} → p.stride ≡ n_of p.chart.now → Roomy most (letters p.chart.now) (n_of p.chart.now) p.room (length table) (length vectors) →
+    GrowAsks p table vectors
+vector_asks p e r = record { table_fits = r.rows; fits = rw e r.places }

@@ -1,11 +1,12 @@
 -- State after state expanded: the loop of the walk, said of lists. Assumes nothing.
-use mathlib.Core.Path.{◌≡◌, refl, sym, ap, subst, ◌∙◌}
+use mathlib.Core.Path.{◌≡◌, refl, sym, ap, ◌∙◌}
 use mathlib.Core.List.{List, []}
 use Prim.Native.Nat.{ℕ, suc, ◌+◌, ◌*◌, ◌≤◌, ◌<◌}
 use native.Mathlib.Numerals.{add-one}
 use native.Mathlib.Omega.{arith}
 use lib.ListN.{length, get_or}
 use Rattle.paper.specs.Lists.{joined, in_front}
+use Rattle.paper.specs.Chart.{letters}
 use Rattle.paper.specs.Tables.{two_bytes, row_size}
 use Rattle.paper.specs.Constructions.{next_bytes, row_of, state_row, table_of}
 use Rattle.lists.proofs.ByPlace.{length_joined, joined_cong}
@@ -18,37 +19,35 @@ use Rattle.places.specs.Search.{place_at}
 use Rattle.places.proofs.Search.{length_values, values_at}
 use Rattle.kinds.specs.Kinds.{made}
 use Rattle.places.specs.Memory.{Apart}
-use Rattle.search.specs.Kept.{kept_in, Index, Holds}
-use Rattle.nexts.specs.Taken.{grown, found_bytes, nexts_for, row_for, row_in, Taken, TakenAs}
-use Rattle.expand.specs.Asked.{ExpandAsks}
+use Rattle.marks.specs.declared.chains.Index.{Index}
+use Rattle.search.specs.Kept.{kept_in, Holds}
+use Rattle.nexts.specs.Taken.{grown, found_bytes, nexts_for, row_for, row_in, Taken}
 use Rattle.walk.specs.Walked.{walked, WalkAsks, Walked}
 use Rattle.places.specs.Memory.{spliced}
-use Rattle.kinds.specs.declared.Plan.{Plan}
-use Rattle.nexts.specs.declared.Grown.{Grown}
-use Rattle.nexts.specs.declared.Grown.TheVariants.{Held, Full}
+use Rattle.kinds.specs.declared.plan.Plan.{Plan}
 use Rattle.places.proofs.Memory.{in_front_splice, apart_refl, apart_trans}
 
 -- the states below i expanded, with `held` states kept in `new`
-pub record WalkTo (p : Plan) (c t table₀ table old new : List ℕ) (index : Index) (held i : ℕ) : Type 0 where
+pub record WalkTo (p : Plan) (table₀ table old new : List ℕ) (index : Index) (held i : ℕ) : Type 0 where
   pub below : i ≤ held
   pub roomy : held ≤ p.room
   pub table_long : length table ≡ length table₀
-  pub listed : rest (made p c t).key (made p c t).step p.shape.letters p.room i (kept_in p held new) ≡ walked p c t old
-  pub holds : Holds c p new index held
+  pub listed : rest (made p).key (made p).step (letters p.chart.now) p.room i (kept_in p held new) ≡ walked p old
+  pub holds : Holds p new index held
   pub apart : Apart p.stride p.width (suc p.room) old new
-  pub table_is : table ≡ in_front (joined i (state_row (made p c t) p.shape.letters (walked p c t old))) table₀
+  pub table_is : table ≡ in_front (joined i (state_row (made p) (letters p.chart.now) (walked p old))) table₀
 
-module _ (p : Plan) (c t table₀ old : List ℕ) where
+module _ (p : Plan) (table₀ old : List ℕ) where
   -- all states
   abbrev all : List (List ℕ)
-  all = walked p c t old
+  all = walked p old
 
-  pub walk_none : (index : Index) → WalkAsks p c t table₀ old index → WalkTo p c t table₀ table₀ old old index 1 0
+  pub walk_none : (index : Index) → WalkAsks p table₀ old index → WalkTo p table₀ table₀ old old index 1 0
   unfolding joined
   walk_none index a =
       record {
         below = omega arith;
-        roomy = a.ready.sized.room_low;
+        roomy = p.ready.room_low;
         table_long = refl;
         listed = refl;
         holds = a.holds;
@@ -56,14 +55,11 @@ module _ (p : Plan) (c t table₀ old : List ℕ) where
         table_is = in_front_none table₀;
       }
 
-  length_done : (i : ℕ) → length (joined i (state_row (made p c t) p.shape.letters all)) ≡ i * row_size p.shape.letters
+  length_done : (i : ℕ) → length (joined i (state_row (made p) (letters p.chart.now) all)) ≡ i * row_size (letters p.chart.now)
   unfolding state_row
-  length_done i = length_joined i (row_size p.shape.letters) _ (λ s h. length_row (made p c t) p.shape.letters all (get_or all s []))
+  length_done i = length_joined i (row_size (letters p.chart.now)) _ (λ s h. length_row (made p) (letters p.chart.now) all (get_or all s []))
 
-  module _ {table new : List ℕ} {index : Index} {held i : ℕ} (so : WalkTo p c t table₀ table old new index held i) where
-    pub walk_asks : {index₀ : Index} → WalkAsks p c t table₀ old index₀ → i < held → ExpandAsks p c t i held table new index
-    walk_asks a h = record { ready = a.ready; below = h; roomy = so.roomy; holds = so.holds; table_fits = rw so.table_long a.table_fits }
-
+  module _ {table new : List ℕ} {index : Index} {held i : ℕ} (so : WalkTo p table₀ table old new index held i) where
     module _ (h : i < held) where
       -- the value of state i
       abbrev v : List ℕ
@@ -78,34 +74,34 @@ module _ (p : Plan) (c t table₀ old : List ℕ) where
       state_i : get_or (kept_in p held new) i [] ≡ v
       state_i = values_at p.stride p.width held new i h
 
-      goes_on : rest (made p c t).key (made p c t).step p.shape.letters p.room (suc i) (grown p c t held v new) ≡ all
-      goes_on = rw (← state_i) (sym (rest_next (made p c t).key (made p c t).step p.shape.letters p.room i (kept_in p held new) inside few) ∙ so.listed)
+      goes_on : rest (made p).key (made p).step (letters p.chart.now) p.room (suc i) (grown p held v new) ≡ all
+      goes_on = rw (← state_i) (sym (rest_next (made p).key (made p).step (letters p.chart.now) p.room i (kept_in p held new) inside few) ∙ so.listed)
 
-      walk_full : p.room < length (grown p c t held v new) → p.room < length all
+      pub walk_full : p.room < length (grown p held v new) → p.room < length all
       walk_full r =
           rw (← so.listed)
-          (rest_over (made p c t).key (made p c t).step p.shape.letters p.room i (kept_in p held new) inside few p.shape.letters (omega arith) (rw state_i r))
+          (rest_over (made p).key (made p).step (letters p.chart.now) p.room i (kept_in p held new) inside few (letters p.chart.now) (omega arith) (rw state_i r))
 
       -- letter x's next state is its place in the end
-      next_stays : (x : ℕ) → x < p.shape.letters → found_bytes (made p c t) (kept_in p held new) v x ≡ next_bytes (made p c t) all v x
+      next_stays : (x : ℕ) → x < letters p.chart.now → found_bytes (made p) (kept_in p held new) v x ≡ next_bytes (made p) all v x
       unfolding found_bytes next_bytes
       next_stays x l =
           ap two_bytes
           (sym
           (rw (state_i, so.listed)
-          at (rest_place (made p c t).key (made p c t).step p.shape.letters p.room i (kept_in p held new) inside few x l)))
+          at (rest_place (made p).key (made p).step (letters p.chart.now) p.room i (kept_in p held new) inside few x l)))
 
       -- state i's row is the same in the end
-      row_stays : row_in p c t held v new ≡ state_row (made p c t) p.shape.letters all i
+      row_stays : row_in p held v new ≡ state_row (made p) (letters p.chart.now) all i
       unfolding row_for nexts_for state_row row_of
       row_stays =
           let q : get_or all i [] ≡ v =
-          (rw so.listed at (rest_value (made p c t).key (made p c t).step p.shape.letters p.room i (kept_in p held new) inside few)) ∙ state_i in
-          rw (q, joined_cong p.shape.letters (found_bytes (made p c t) (kept_in p held new) v) (next_bytes (made p c t) all v) next_stays)
+          (rw so.listed at (rest_value (made p).key (made p).step (letters p.chart.now) p.room i (kept_in p held new) inside few)) ∙ state_i in
+          rw (q, joined_cong (letters p.chart.now) (found_bytes (made p) (kept_in p held new) v) (next_bytes (made p) all v) next_stays)
 
-      walk_more : {table' new' : List ℕ} {index' : Index} {more : ℕ} →
-          Taken p c t held v (spliced (i * row_size p.shape.letters) (row_in p c t held v new) table) table' new new' index' more → length table' ≡ length table →
-          WalkTo p c t table₀ table' old new' index' more (i + 1)
+      pub walk_more : {table' new' : List ℕ} {index' : Index} {more : ℕ} →
+          Taken p held v (spliced (i * row_size (letters p.chart.now)) (row_in p held v new) table) table' new new' index' more → length table' ≡ length table →
+          WalkTo p table₀ table' old new' index' more (i + 1)
       unfolding joined
       walk_more {table'} {new'} {index'} {more} d lt =
           record {
@@ -114,7 +110,7 @@ module _ (p : Plan) (c t table₀ old : List ℕ) where
                   arith,
                   length_values p.stride p.width more new',
                   ap length d.listed,
-                  extends_length (expanded_extends (made p c t).key (made p c t).step v (kept_in p held new) p.shape.letters),
+                  extends_length (expanded_extends (made p).key (made p).step v (kept_in p held new) (letters p.chart.now)),
                   length_values p.stride p.width held new,
                 );
             roomy = d.roomy;
@@ -122,26 +118,18 @@ module _ (p : Plan) (c t table₀ old : List ℕ) where
             listed = rw (add-one, d.listed) goes_on;
             holds = d.holds;
             apart = apart_trans so.apart d.apart;
-            table_is = rw add-one (d.row_is ∙ in_front_splice _ table₀ _ table (i * row_size p.shape.letters) so.table_is (length_done i) ∙ rw row_stays);
+            table_is = rw add-one (d.row_is ∙ in_front_splice _ table₀ _ table (i * row_size (letters p.chart.now)) so.table_is (length_done i) ∙ rw row_stays);
           }
 
-      module _ (table' new' : List ℕ) (index' : Index) (r : Grown)
-          (d : TakenAs p c t held v (spliced (i * row_size p.shape.letters) (row_in p c t held v new) table) table' new new' index' r) where
-        pub walk_stops : r ≡ Full → p.room < length (walked p c t old)
-        walk_stops e = walk_full (subst (λ (g : Grown). TakenAs p c t held v (spliced (i * row_size p.shape.letters) (row_in p c t held v new) table) table' new new' index' g) e d)
-
-        pub walk_goes : (more : ℕ) → r ≡ Held more → length table' ≡ length table → WalkTo p c t table₀ table' old new' index' more (i + 1)
-        walk_goes more e lt = walk_more (subst (λ (g : Grown). TakenAs p c t held v (spliced (i * row_size p.shape.letters) (row_in p c t held v new) table) table' new new' index' g) e d) lt
-
-    pub walk_all : held ≤ i → Walked p c t table₀ table old new held
+    pub walk_all : held ≤ i → Walked p table₀ table old new held
     unfolding table_of
     walk_all h =
         let e : kept_in p held new ≡ all =
-        sym (rest_end (made p c t).key (made p c t).step p.shape.letters p.room i (kept_in p held new) (rw length_values h)) ∙ so.listed in
+        sym (rest_end (made p).key (made p).step (letters p.chart.now) p.room i (kept_in p held new) (rw length_values h)) ∙ so.listed in
         let n : i ≡ length all = omega (arith, so.below, ap length e, length_values p.stride p.width held new) in
         record {
           roomy = so.roomy;
           listed = e;
           apart = so.apart;
-          table_is = so.table_is ∙ ap (λ k. in_front (joined k (state_row (made p c t) p.shape.letters all)) table₀) n;
+          table_is = so.table_is ∙ ap (λ k. in_front (joined k (state_row (made p) (letters p.chart.now) all)) table₀) n;
         }

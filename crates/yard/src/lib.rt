@@ -2,79 +2,57 @@
 #![tactic(auto)]
 
 ghost use Rattle.std.specs.Prelude.{◌≡◌, true, ◌<◌, ◌≤◌, length};
-ghost use Rattle.cells.specs.Shaped.{Shaped};
-ghost use Rattle.vectors.specs.Products.{Grades};
+ghost use Rattle.paper.specs.Chart.{n_of, letters};
+ghost use Rattle.cells.specs.Shaped.{Grades, Vector};
 
-use replies::{Built, BuiltBoth, Checked, Shape, Verdict};
+use cells::Chart;
+use replies::Refusal;
 
-// The number of the refusal, or 0.
+// What C reads as a number: the refusal's, or 0.
+fn number<T: Copy>(answer: Result<T, Refusal>) -> u8 {
+    answer.err().map_or(0, u8::from)
+}
+
 pub fn yard_check(chart: &[u8]) -> u8 {
-    match chart::check(chart) {
-        Checked::Fine(_) => 0,
-        Checked::Refused(why) => replies::number(why),
-    }
+    number(chart::check(chart))
 }
 
 // Whether v has n grades below k at its front.
 fn are_grades(v: &[u8], k: usize, n: usize) -> bool
     ensures { result ≡ true → Grades k n v.now }
 {
-    if v.len() < n {
-        return false;
-    }
-    let mut p = 0;
-    while p < n {
-        if k <= v[p] as usize {
-            return false;
-        }
-        p += 1;
-    }
-    true
+    v.len() >= n && v[..n].iter().all(|grade| usize::from(*grade) < k)
 }
 
 // The same row product so many times over.
-fn multiply(chart: &[u8], shape: Shape, x: usize, v: &[u8], out: &mut [u8], turns: usize)
-    requires { Shaped chart.now shape × (x < shape.letters) × Grades shape.k shape.n v.now × (shape.n ≤ length out.old) }
+fn multiply(chart: &Chart, x: usize, v: &[u8], out: &mut [u8], turns: usize)
+    requires { (x < letters chart.now) × Vector chart.now v.now × (n_of chart.now ≤ length out.old) }
 {
-    let mut t = 0;
-    while t < turns {
-        vectors::times::row_times(chart, shape, x, v, out);
-        t += 1;
+    for _ in 0..turns {
+        vectors::times::row_times(chart, x, v, out);
     }
 }
 
 // The vector v times letter x's matrix, into out, so many times over. Answers 0 where the chart, the letter or the vector is not one.
 pub fn yard_row_times(chart: &[u8], x: usize, v: &[u8], out: &mut [u8], turns: usize) -> usize {
-    let Checked::Fine(shape) = chart::check(chart) else {
+    let Ok(chart) = chart::open(chart) else {
         return 0;
     };
-    if shape.letters <= x {
+    let n = chart.n();
+    if chart.letters() <= x || out.len() < n || !are_grades(v, chart.k(), n) {
         return 0;
     }
-    if out.len() < shape.n {
-        return 0;
-    }
-    if !are_grades(v, shape.k, shape.n) {
-        return 0;
-    }
-    multiply(chart, shape, x, v, out, turns);
+    multiply(&chart, x, v, out, turns);
     turns
 }
 
-// The state count, or 0 for a refusal.
-fn states(built: Built) -> usize {
-    match built {
-        Built::States(count) => count,
-        Built::Refused(_) => 0,
-    }
-}
-
+// What C reads as a state count: 0 for a refusal.
 pub fn yard_nerode(chart: &[u8], room: usize, table: &mut [u8], vectors: &mut [u8]) -> usize {
-    states(forward::nerode(chart, room, table, vectors))
+    forward::nerode(chart, room, table, vectors).unwrap_or(0)
 }
 
 pub fn yard_reduced(chart: &[u8], room: usize, table: &mut [u8], vectors: &mut [u8]) -> usize {
-    states(forward::reduced(chart, room, table, vectors))
+    forward::reduced(chart, room, table, vectors).unwrap_or(0)
 }
 
 pub fn yard_brzozowski(
@@ -86,7 +64,7 @@ pub fn yard_brzozowski(
     reverse_vectors: &mut [u8],
     rows: &mut [u8],
 ) -> usize {
-    match backward::brzozowski(
+    backward::brzozowski(
         chart,
         room,
         reverse_room,
@@ -94,13 +72,10 @@ pub fn yard_brzozowski(
         reverse_table,
         reverse_vectors,
         rows,
-    ) {
-        BuiltBoth::States(count, _) => count,
-        BuiltBoth::Refused(_) => 0,
-    }
+    )
+    .map_or(0, |both| both.states)
 }
 
-// The number of the refusal, or 0.
 pub fn yard_check_sheet(
     chart: &[u8],
     rows: &[u8],
@@ -109,8 +84,5 @@ pub fn yard_check_sheet(
     sheet: &[u8],
     lines: usize,
 ) -> u8 {
-    match sheets::check_sheet(chart, rows, count, m, sheet, lines) {
-        Verdict::Accepted => 0,
-        Verdict::Refused(why) => replies::number(why),
-    }
+    number(sheets::check_sheet(chart, rows, count, m, sheet, lines))
 }

@@ -8,4 +8,4 @@ pub returns-then-cursor-gt1 : goal.returns-then-cursor-gt1
 returns-then-cursor-gt1 c = behind_line_lem _ c.args.cursor c.args.due (omega arith) (omega arith)
 
 pub returns : goal.returns
-returns c = behind_last _ c.args.cursor c.args.due (omega arith) (omega arith) c.rule_of-next.result (omega arith)
+returns c = behind_last _ c.args.cursor c.args.due (omega arith) (omega arith) c.rule_of.result (omega arith)

@@ -1,25 +1,23 @@
 -- `dues::rule_of` meets its contract: each arm is what `width_of` and `lines_of` say of its kinds.
 -- Assumes nothing.
-use mathlib.Core.Path.{refl}
+use mathlib.Core.Path.{refl, ap}
+use Prim.Native.Nat.{ℕ}
 use native.Mathlib.Omega.{arith}
 use Rattle.lists.proofs.Bound.{product}
 use Rattle.dues.proofs.Dues.{rule_head, rule_grades, rule_vector, rule_matrix, rule_none}
 use Rattle.dues.proofs.rule_of.Goals as goal
+use Rattle.dues.proofs.rule_of.Goals.{in-1, in-6, in-2-to-3, in-4-to-5, in_default, in_default-2}
 
-pub overflow_mul-result : goal.overflow_mul-result
-overflow_mul-result c = omega (arith, product {a = c.args.counts.m} {b = c.args.counts.n} {c = 16} {d = 24} (omega arith) (omega arith))
+pub overflow_mul-width : goal.overflow_mul-width
+overflow_mul-width c = omega (arith, product {a = c.args.counts.m} {b = c.args.counts.n} {c = 16} {d = 24} (omega arith) (omega arith))
 
-pub returns-in-1 : goal.returns-in-1
-returns-in-1 c = rule_head _ _ _ (omega arith) (omega arith) refl refl
-
-pub returns-in-6 : goal.returns-in-6
-returns-in-6 c = rule_matrix _ _ _ (omega arith) (search) (omega arith) refl (omega arith) refl
-
-pub returns-in-2-to-3 : goal.returns-in-2-to-3
-returns-in-2-to-3 c = rule_grades _ _ _ refl (search) (omega arith) (omega arith) refl refl
-
-pub returns-in-4-to-5 : goal.returns-in-4-to-5
-returns-in-4-to-5 c = rule_vector _ _ _ refl (search) (omega arith) refl (omega arith) refl
-
-pub returns-in_default-2 : goal.returns-in_default-2
-returns-in_default-2 c = rule_none _ _ _ (omega arith) (search) (omega arith) refl (omega arith) refl
+pub returns : goal.returns
+returns c =
+    elim c.match-kind.branch [
+      | in-1 w ↦ rule_head _ _ _ refl (omega arith) (ap (λ (p : ℕ × ℕ). p.0) w.width-is) (ap (λ (p : ℕ × ℕ). p.1) w.width-is)
+      | in-6 w ↦ rule_matrix _ _ _ refl (search) (omega arith) (ap (λ (p : ℕ × ℕ). p.0) w.width-is) (omega arith) (ap (λ (p : ℕ × ℕ). p.1) w.width-is)
+      | in-2-to-3 w ↦ rule_grades _ _ _ refl (search) (omega arith) (omega arith) (ap (λ (p : ℕ × ℕ). p.0) w.width-is) (ap (λ (p : ℕ × ℕ). p.1) w.width-is)
+      | in-4-to-5 w ↦ rule_vector _ _ _ refl (search) (omega arith) (ap (λ (p : ℕ × ℕ). p.0) w.width-is) (omega arith) (ap (λ (p : ℕ × ℕ). p.1) w.width-is)
+      | in_default w ↦ absurd (omega arith)
+      | in_default-2 w ↦ rule_none _ _ _ refl (search) (omega arith) (ap (λ (p : ℕ × ℕ). p.0) w.width-is) (omega arith) (ap (λ (p : ℕ × ℕ). p.1) w.width-is)
+    ]

@@ -1,17 +1,21 @@
 -- `forward::nerode` meets its contract. Assumes nothing.
 use mathlib.Core.Path.{refl}
+use Rattle.std.proofs.lemmas.Result.{err_from_is_err_and}
 use Rattle.paper.specs.Builders.{nerode}
-use Rattle.chart.proofs.Checked.{shaped, fits_fine}
-use Rattle.forward.proofs.Refused.{build_refused}
+use Rattle.std.proofs.lemmas.Result.{err_from_is_err_and}
+use Rattle.kinds.specs.declared.Kind.TheVariants.{Nerode}
+use Rattle.forward.proofs.Refused.{build_refused, opened_fits, build_opened}
 use Rattle.forward.proofs.nerode.Goals as goal
 
 pub build-requires : goal.build-requires
-build-requires c = (refl, fits_fine _ c.check.ensures c.in-Fine.is, shaped _ c.check.ensures c.in-Fine.is)
+build-requires c = (refl, opened_fits _ _ c.in_ok-open.ensures)
 
-pub returns-in-Refused : goal.returns-in-Refused
+pub returns-in_err-open : goal.returns-in_err-open
 unfolding nerode
-returns-in-Refused c = build_refused _ _ _ _ _ c.check.ensures c.in-Refused.is
+returns-in_err-open c =
+    let p = err_from_is_err_and c.from_residual.result c.from_residual.ensures.1 in
+    rw (p.1, p.2) (build_refused _ _ _ _ _ _ c.in_err-open.ensures)
 
-pub returns-in-Fine : goal.returns-in-Fine
+pub returns : goal.returns
 unfolding nerode
-returns-in-Fine c = c.build.ensures
+returns c = build_opened _ _ c.in_ok-open.ensures Nerode _ _ _ c.build.ensures

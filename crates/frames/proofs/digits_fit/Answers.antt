@@ -1,20 +1,12 @@
--- `frames::digits_fit` meets its contract. The loop's invariant: what was passed are digits.
+-- `frames::digits_fit` meets its contract: the test of `all` is that of `digit_fits`.
 -- Assumes nothing.
 use mathlib.Core.Path.{refl}
-use native.Mathlib.Omega.{arith}
-use Rattle.paper.specs.Lists.{all_below}
-use Rattle.frames.proofs.FrameRead.{digit_bad, digit_more, digits_all}
+use Rattle.std.proofs.Common.{rules}
+use Rattle.std.proofs.lemmas.Bool.Decides.{nat_tests}
+use Rattle.pages.specs.Frames.{digit_fits}
+use Rattle.lists.proofs.Methods.{range_all}
 use Rattle.frames.proofs.digits_fit.Goals as goal
 
-pub loop-i-init : goal.loop-i-init
-unfolding all_below
-loop-i-init c = (omega arith, refl)
-
-pub returns-then-digit-ge16 : goal.returns-then-digit-ge16
-returns-then-digit-ge16 c = digit_bad _ _ _ c.loop-i.i _ _ (search) c.char_at.ensures c.digit.ensures.0 c.if-digit-ge16.true
-
-pub loop-i-preserved : goal.loop-i-preserved
-loop-i-preserved c = (omega arith, digit_more _ _ c.loop-i.i _ _ c.loop-i.invariant.1 c.char_at.ensures c.digit.ensures.0 c.if-digit-ge16.false)
-
 pub returns : goal.returns
-returns c = digits_all _ _ _ c.loop-i.i (omega arith) c.loop-i.invariant.1
+unfolding digit_fits
+returns c = range_all _ _ c.all.result (digit_fits c.args.text.now c.args.pos) c.args.n refl c.all.ensures.ran (λ x b q k. search (rules, nat_tests))

@@ -1,7 +1,7 @@
 -- `frames::put_frame` meets its contract. The loop's invariant: the digits of j of the frame's bytes are in front of the buffer.
 -- Assumes nothing.
 use mathlib.Core.Path.{◌≡◌}
-use Prim.Native.Nat.{◌≤◌, ◌-◌, ◌+◌, ◌*◌}
+use Prim.Native.Nat.{◌*◌}
 use lib.ListN.{length}
 use Rattle.pages.specs.Frames.{frame}
 use Rattle.frames.specs.Lines.{LineIn}
@@ -9,7 +9,4 @@ use Rattle.lists.proofs.Front.{begun}
 use Rattle.frames.proofs.put_frame.Given as goal
 
 abbrev pub invariant-loop-j : goal.invariant-loop-j
-invariant-loop-j l = LineIn l.payload l.initial.out × (l.j ≤ 3 + length l.payload) × (length l.out ≡ length l.initial.out) × (l.out ≡ begun (frame l.kind l.payload) l.initial.out (2 * l.j))
-
-abbrev pub decreases-loop-j : goal.decreases-loop-j
-decreases-loop-j l = 3 + length l.payload - l.j
+invariant-loop-j l = LineIn l.payload l.initial.out × (length l.out ≡ length l.initial.out) × (l.out ≡ begun (frame l.kind l.payload) l.initial.out (2 * l.j))

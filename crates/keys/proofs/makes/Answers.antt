@@ -1,17 +1,14 @@
 -- `keys::makes` meets its contract. Assumes nothing.
-use mathlib.Core.Path.{refl, sym, ◌∙◌}
-use Rattle.kinds.proofs.Keys.{made_long, made_front}
-use Rattle.kinds.proofs.KindLaws.{as_grades}
+use mathlib.Core.Path.{◌≡◌, ◌∙◌}
+use lib.ListN.{take}
+use Rattle.paper.specs.Lists.{same_list}
+use Rattle.paper.specs.Vectors.{row_times}
+use Rattle.kinds.proofs.Keys.{made_front}
 use Rattle.keys.proofs.makes.Goals as goal
 
-pub row_times-requires : goal.row_times-requires
-row_times-requires c = (c.requires.0, c.requires.1, as_grades c.requires.2 refl, c.requires.0.sizes.n_high)
-
-pub slice_bounds-same-end : goal.slice_bounds-same-end
-slice_bounds-same-end c = sym (made_long c.requires.0 c.args.x c.args.v.now _ c.row_times.ensures)
-
-pub same-requires : goal.same-requires
-same-requires c = made_long c.requires.0 c.args.x c.args.v.now _ c.row_times.ensures ∙ sym c.requires.3
-
 pub returns : goal.returns
-returns c = c.same.ensures ∙ made_front c.requires.0 _ _ _ _ c.row_times.ensures
+returns c =
+    let due = c.args.due.now in
+    let e : same_list (take c.n-n.result c.row_times.new.out) due ≡ same_list (row_times c.args.chart.now c.args.x c.args.v.now) due =
+    rw c.n-n.ensures.is (made_front c.args.chart.now c.args.x c.args.v.now _ due c.row_times.ensures) in
+    c.same.ensures ∙ e

@@ -1,13 +1,6 @@
 -- `law_tests::keeps_zero` meets its contract. Assumes nothing.
-use native.Mathlib.Omega.{arith}
 use Rattle.law_tests.proofs.LawTests.{zero_passes, zero_fails}
 use Rattle.law_tests.proofs.keeps_zero.Goals as goal
-
-pub prod-requires : goal.prod-requires
-prod-requires c = (search, omega arith, search)
-
-pub prod-requires-then-prod-eq0 : goal.prod-requires-then-prod-eq0
-prod-requires-then-prod-eq0 c = (search, search, omega arith)
 
 pub returns-then-prod-eq0 : goal.returns-then-prod-eq0
 returns-then-prod-eq0 c = zero_passes _ _ c.prod.ensures.is c.if-prod-eq0.true c.prod-then-prod-eq0.ensures.is

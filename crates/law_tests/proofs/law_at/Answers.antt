@@ -7,51 +7,6 @@ use Rattle.paper.specs.Check.{laws, law_at}
 use Rattle.law_tests.proofs.LawTests.{law_by, law_none, associates}
 use Rattle.law_tests.proofs.law_at.Goals as goal
 
-pub join-requires : goal.join-requires
-join-requires c = let p = c.requires in (p.0, p.1, p.1)
-
-pub join-requires-in-1 : goal.join-requires-in-1
-join-requires-in-1 c = let p = c.requires in (p.0, p.1, p.2)
-
-pub join-requires-in-1-2 : goal.join-requires-in-1-2
-join-requires-in-1-2 c = let p = c.requires in (p.0, p.2, p.1)
-
-pub join-requires-in-2 : goal.join-requires-in-2
-join-requires-in-2 c = let p = c.requires in (p.0, p.1, p.2)
-
-pub join-requires-in-2-2 : goal.join-requires-in-2-2
-join-requires-in-2-2 c = let p = c.requires in (p.0, c.join-in-2.ensures.low, p.3)
-
-pub join-requires-in-2-3 : goal.join-requires-in-2-3
-join-requires-in-2-3 c = let p = c.requires in (p.0, p.2, p.3)
-
-pub join-requires-in-2-4 : goal.join-requires-in-2-4
-join-requires-in-2-4 c = let p = c.requires in (p.0, p.1, c.join-in-2-3.ensures.low)
-
-pub join-requires-in-3 : goal.join-requires-in-3
-join-requires-in-3 c = (search, omega arith, search)
-
-pub prod-requires : goal.prod-requires
-prod-requires c = let p = c.requires in (p.0, p.1, p.2)
-
-pub prod-requires-in-4 : goal.prod-requires-in-4
-prod-requires-in-4 c = let p = c.requires in (p.0, c.prod.ensures.low, p.3)
-
-pub prod-requires-in-4-2 : goal.prod-requires-in-4-2
-prod-requires-in-4-2 c = let p = c.requires in (p.0, p.2, p.3)
-
-pub prod-requires-in-4-3 : goal.prod-requires-in-4-3
-prod-requires-in-4-3 c = let p = c.requires in (p.0, p.1, c.prod-in-4-2.ensures.low)
-
-pub keeps_unit-requires : goal.keeps_unit-requires
-keeps_unit-requires c = let p = c.requires in (p.0, p.1)
-
-pub keeps_zero-requires : goal.keeps_zero-requires
-keeps_zero-requires c = let p = c.requires in (p.0, p.1)
-
-pub distributes-requires : goal.distributes-requires
-distributes-requires c = c.requires
-
 pub returns-in-0 : goal.returns-in-0
 unfolding law_at laws
 returns-in-0 c = law_by _ _ _ _ 0 c.in-0.is (ap (λ r. eqb r c.args.a) c.join.ensures.is)

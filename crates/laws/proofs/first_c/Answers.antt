@@ -1,25 +1,27 @@
 -- `laws::first_c` meets its contract. Assumes nothing.
+use Rattle.std.proofs.Common.{◌<◌, refl, rules, tests}
+use Rattle.std.proofs.lemmas.Iterator.{serves_from_Range}
 use native.Mathlib.Omega.{arith}
-use mathlib.Core.Path.{sym, ◌∙◌}
-use Rattle.paper.specs.Check.{broken_c}
-use Rattle.laws.proofs.Tries.{tried_none, tried_more, fails_at, fails_nowhere}
+use Rattle.paper.specs.Chart.{k_of}
+use Rattle.paper.specs.Check.{law_at, broken_c}
+use Rattle.lists.proofs.Methods.{range_find}
+use Rattle.laws.specs.Laws.{Enough}
+use Rattle.laws.proofs.Tries.{found_first}
 use Rattle.laws.proofs.first_c.Goals as goal
 
-pub loop-c-init : goal.loop-c-init
-loop-c-init c = tried_none (c.tries_c-count.ensures _ _ _)
-
-pub law_at-requires : goal.law_at-requires
-law_at-requires c = (search, search, search, omega arith)
-
-pub returns-then-not-law_at : goal.returns-then-not-law_at
-unfolding broken_c
-returns-then-not-law_at c = fails_at c.loop-c.invariant c.requires.0.k_is c.loop-c-test.true
-    (sym c.law_at.ensures ∙ c.if-not-law_at.true)
-
-pub loop-c-preserved : goal.loop-c-preserved
-loop-c-preserved c = tried_more c.loop-c.invariant c.loop-c-test.true
-    (sym c.law_at.ensures ∙ c.if-not-law_at.false)
+pub find-requires-clause-callable : goal.find-requires-clause-callable
+find-requires-clause-callable c =
+    serves_from_Range (λ x q k. search (rules, tests))
+    (λ x low high y e.
+    let h = c.requires in
+    let l : y.now < k_of c.args.chart.now = omega (arith, c.k.ensures.is, (c.tries_c.ensures c.args.chart.now 0 0).low) in
+    (search rules, search rules))
 
 pub returns : goal.returns
 unfolding broken_c
-returns c = fails_nowhere c.loop-c.invariant c.requires.0.k_is c.loop-c-test.false
+returns c =
+    let enough : Enough (k_of c.args.chart.now) c.tries_c.result (law_at c.args.chart.now c.args.law c.args.a c.args.b) =
+    rw (← c.k.ensures.is) (c.tries_c.ensures _ _ _) in
+    found_first (law_at c.args.chart.now c.args.law c.args.a c.args.b) enough c.find.result
+    (range_find _ _ _ c.find.result (law_at c.args.chart.now c.args.law c.args.a c.args.b) c.tries_c.result refl c.find.ensures.ran
+    (λ x b q k. search (rules, tests)))

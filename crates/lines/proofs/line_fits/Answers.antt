@@ -1,23 +1,16 @@
--- `lines::line_fits` meets its contract. The loop's invariant: the grades passed are below k. Assumes nothing.
-use native.Mathlib.Omega.{arith}
-use mathlib.Core.Path.{refl}
-use mathlib.Core.Bool.{true}
-use Rattle.paper.specs.Lists.{all_below}
-use Rattle.lines.proofs.Reading.{state_high, grade_high, grade_more, line_good}
+-- `lines::line_fits` meets its contract: the state is below the count, and each grade below k. Assumes nothing.
+use mathlib.Core.Path.{◌∙◌}
+use lib.Dec.{ltb}
+use borrow.Author.Rules.{rules}
+use borrow.Author.Tests.{tests, le-ltb}
+use Rattle.lists.proofs.Methods.{slice_all}
+use Rattle.lines.proofs.Reading.{state_high, grades_said}
 use Rattle.lines.proofs.line_fits.Goals as goal
 
-pub returns-then-count-line_state : goal.returns-then-count-line_state
-returns-then-count-line_state c = state_high _ _ _ _ c.line_state.ensures c.if-count-line_state.true
+pub returns-then-line_state-count : goal.returns-then-line_state-count
+returns-then-line_state-count c =
+    grades_said c.requires _ c.k-k.ensures.is c.line_state.ensures c.if-line_state-count.true c.line_vector.ensures
+    (slice_all _ _ _ (λ g. ltb g c.k-k.result) c.line_vector.result.now (cc) c.all.ensures.ran (λ x b q k. search (rules, tests)))
 
-pub loop-p-init : goal.loop-p-init
-unfolding all_below
-loop-p-init c = (omega arith, refl)
-
-pub returns-then-shape-wide : goal.returns-then-shape-wide
-returns-then-shape-wide c = grade_high c.requires _ c.loop-p.p c.line_vector-v.ensures (search) (omega arith)
-
-pub loop-p-preserved : goal.loop-p-preserved
-loop-p-preserved c = (omega arith, grade_more c.requires 0 c.loop-p.p c.line_vector-v.ensures c.loop-p.invariant.1 (omega arith))
-
-pub returns : goal.returns
-returns c = line_good c.requires _ c.loop-p.p c.line_state.ensures c.if-count-line_state.false c.line_vector-v.ensures (omega arith) c.loop-p.invariant.1
+pub returns-else-line_state-count : goal.returns-else-line_state-count
+returns-else-line_state-count c = le-ltb _ _ c.if-line_state-count.false ∙ state_high _ _ _ _ c.line_state.ensures c.if-line_state-count.false

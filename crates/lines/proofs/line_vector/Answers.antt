@@ -4,4 +4,4 @@ use Rattle.lines.proofs.Reading.{vector_is}
 use Rattle.lines.proofs.line_vector.Goals as goal
 
 pub returns : goal.returns
-returns c = vector_is c.requires _ refl
+returns c = vector_is c.requires c.n-n.ensures.is _ refl

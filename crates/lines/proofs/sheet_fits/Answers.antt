@@ -1,36 +1,25 @@
--- `lines::sheet_fits` meets its contract. The loop's invariant: the lines passed fit. Assumes nothing.
-use native.Mathlib.Omega.{arith}
-use Rattle.lists.proofs.Bound.{product}
-use mathlib.Core.Path.{refl}
-use mathlib.Core.Bool.{true}
-use Prim.Native.Nat.{◌+◌}
-use Rattle.paper.specs.Lists.{all_below}
-use Rattle.paper.specs.Sheets.{line_fits}
-use Rattle.lists.proofs.Tests.{fell, held, all_more}
-use Rattle.lines.proofs.Reading.{line_in, many_lines, short_sheet, bad_line, sheet_good}
+-- `lines::sheet_fits` meets its contract: its bytes are there, and every line fits. Assumes nothing.
+use mathlib.Core.Path.{refl, sym}
+use borrow.Author.Rules.{rules}
+use borrow.Author.Tests.{tests}
+use Rattle.std.proofs.lemmas.Iterator.{serves_from_Range}
+use Rattle.paper.specs.Lists.{both}
+use Rattle.paper.specs.Sheets.{line_fits, sheet_fits}
+use Rattle.lists.proofs.Methods.{range_all}
+use Rattle.lines.proofs.Reading.{bytes_in, line_in}
 use Rattle.lines.proofs.sheet_fits.Goals as goal
 
-pub returns-then-lines-gt4096 : goal.returns-then-lines-gt4096
-returns-then-lines-gt4096 c = many_lines _ _ _ _ c.if-lines-gt4096.true
+pub all-requires-clause-callable : goal.all-requires-clause-callable
+all-requires-clause-callable c =
+    serves_from_Range (λ x q k. search (rules, tests))
+    (λ x low high. let r = line_in (bytes_in c.args.chart.now c.args.sheet.now c.args.lines (sym c.if-bytes_there.ensures)) high in search rules)
 
-pub overflow_mul-lines : goal.overflow_mul-lines
-overflow_mul-lines c = omega (arith, product {a = c.args.lines} {b = 2 + c.args.shape.n} {c = 4096} {d = 26} (omega arith) (omega (arith, c.requires.sizes.n_high)))
+pub returns-then-bytes_there : goal.returns-then-bytes_there
+unfolding sheet_fits both
+returns-then-bytes_there c =
+    let e = range_all _ _ c.all.result (line_fits c.args.chart.now c.args.count c.args.sheet.now) c.args.lines refl c.all.ensures.ran (λ x b q k. search rules) in
+    rw (← c.if-bytes_there.ensures) e
 
-pub returns-then-sheet-lines : goal.returns-then-sheet-lines
-returns-then-sheet-lines c = short_sheet c.requires _ _ _ (search) (omega arith)
-
-pub loop-i-init : goal.loop-i-init
-unfolding all_below
-loop-i-init c = (omega arith, search, record { shaped = c.requires; few = omega arith; inside = omega arith }, refl)
-
-pub line_fits-requires : goal.line_fits-requires
-line_fits-requires c = line_in c.loop-i.invariant.2 (search)
-
-pub returns-then-not-line_fits : goal.returns-then-not-line_fits
-returns-then-not-line_fits c = bad_line _ _ _ _ c.loop-i.i (search) (fell c.line_fits.ensures c.if-not-line_fits.true)
-
-pub loop-i-preserved : goal.loop-i-preserved
-loop-i-preserved c = (omega arith, search, c.loop-i.invariant.2, all_more _ _ c.loop-i.invariant.3 (held c.line_fits.ensures c.if-not-line_fits.false))
-
-pub returns : goal.returns
-returns c = sheet_good c.loop-i.invariant.2.shaped _ _ _ c.loop-i.i c.loop-i.invariant.1 c.loop-i.invariant.2.inside (omega arith) c.loop-i.invariant.3
+pub returns-else-bytes_there : goal.returns-else-bytes_there
+unfolding sheet_fits both
+returns-else-bytes_there c = rw (c.if-bytes_there.false, ← c.if-bytes_there.ensures) refl

@@ -1,22 +1,16 @@
 -- `marks::mark` meets its contract. The loop's invariant: the sum is the number of the bytes passed. Assumes nothing.
-use native.Mathlib.Omega.{arith}
 use mathlib.Core.Path.{refl}
+use native.Mathlib.Omega.{arith}
 use Rattle.marks.specs.Marks.{mark_to}
 use Rattle.marks.proofs.MarkLaws.{mark_more, mark_all}
 use Rattle.marks.proofs.mark.Goals as goal
 
-pub loop-i-init : goal.loop-i-init
+pub loop-byte-init : goal.loop-byte-init
 unfolding mark_to
-loop-i-init c = (omega arith, refl, omega arith)
+loop-byte-init c = refl
 
-pub overflow_cast-sum : goal.overflow_cast-sum
-overflow_cast-sum c = omega (arith, c.shared_slice_known-1.given c.loop-i.i)
-
-pub overflow_add-sum : goal.overflow_add-sum
-overflow_add-sum c = omega (arith, c.shared_slice_known-1.given c.loop-i.i)
-
-pub loop-i-preserved : goal.loop-i-preserved
-loop-i-preserved c = (omega arith, mark_more _ _ c.loop-i.invariant.1 refl, omega arith)
+pub loop-byte-preserved : goal.loop-byte-preserved
+loop-byte-preserved c = mark_more _ _ c.loop-byte.invariant c.from.ensures
 
 pub returns : goal.returns
-returns c = mark_all _ _ c.loop-i.invariant.1 (omega arith)
+returns c = mark_all _ _ c.loop-byte.invariant (omega arith)

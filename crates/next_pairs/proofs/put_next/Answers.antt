@@ -1,31 +1,23 @@
--- `next_pairs::put_next` meets its contract. Assumes nothing.
+-- `next_pairs::put_next` meets its contract: the two bytes of the next state, then the product. Assumes nothing.
 use native.Mathlib.Omega.{arith}
-use lib.ListN.{length-set, length-take, length-drop}
-use Rattle.lines.proofs.Reading.{line_in}
+use mathlib.Core.Path.{◌∙◌}
+use Prim.Native.Nat.{◌≤◌}
+use lib.ListN.{length}
+use Rattle.std.proofs.lemmas.Grind.{common_steps}
+use Rattle.paper.specs.Tables.{two_bytes}
 use Rattle.lines.proofs.PairBytes.{pair_put}
-use Rattle.next_pairs.proofs.NextPairs.{line_row, vector_grades, next_put}
+use Rattle.next_pairs.proofs.NextPairs.{next_put}
 use Rattle.next_pairs.proofs.put_next.Goals as goal
 
-pub line_state-requires : goal.line_state-requires
-line_state-requires c = line_in c.requires.0.lines_in c.requires.1
-
 pub next_at-s-requires : goal.next_at-s-requires
-next_at-s-requires c = (line_row c.requires.0 c.requires.1 c.line_state.ensures, c.requires.2)
-
-pub bounds-out-1 : goal.bounds-out-1
-bounds-out-1 c = simp length-set (omega (arith, c.requires.3))
-
-pub line_vector-v-requires : goal.line_vector-v-requires
-line_vector-v-requires c = line_in c.requires.0.lines_in c.requires.1
-
-pub slice_bounds-row_times-count : goal.slice_bounds-row_times-count
-slice_bounds-row_times-count c = simp length-set (omega (arith, c.requires.3))
-
-pub slice_bounds-row_times-start : goal.slice_bounds-row_times-start
-slice_bounds-row_times-start c = simp length-set (omega (arith, c.requires.3))
+next_at-s-requires c = rw c.letters.ensures.is (c.state.ensures.1, c.requires.1)
 
 pub row_times-requires : goal.row_times-requires
-row_times-requires c = (c.requires.0.lines_in.shaped, c.requires.2, vector_grades c.requires.0 c.requires.1 c.line_vector-v.ensures, simp (length-take, length-drop, length-set) (omega (arith, c.requires.3)))
+row_times-requires c = (c.requires.1, c.vector.ensures.grades, grind (arith, common_steps))
 
 pub returns : goal.returns
-returns c = next_put c.requires.0 c.requires.1 c.args.x c.args.out.now c.line_state.ensures c.line_vector-v.ensures c.next_at-s.ensures (pair_put c.next_at-s.result c.args.out.now _ c.row_times.new.out (omega (arith, c.requires.3)) c.row_times.ensures)
+unfolding two_bytes
+returns c =
+    let l : 2 ≤ length c.args.out.now = omega (arith, c.requires.2) in
+    next_put _ _ _ _ c.letters.ensures.is c.state.ensures.0 c.vector.ensures.is c.args.x c.args.out.now c.next_at-s.ensures
+    (pair_put c.args.out.now _ _ c.row_times.new.out l c.next_at-s.result (c.copy_from_slice.ensures.after ∙ c.to_be_bytes.ensures) c.row_times.ensures)

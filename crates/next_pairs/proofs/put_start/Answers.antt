@@ -1,22 +1,17 @@
--- `next_pairs::put_start` meets its contract. Assumes nothing.
+-- `next_pairs::put_start` meets its contract: the two bytes of state 0, then the chart's start vector. Assumes nothing.
 use native.Mathlib.Omega.{arith}
-use lib.ListN.{length-set, length-take, length-drop}
-use Rattle.vectors.proofs.Parts.{start_inside}
-use Rattle.lines.proofs.PairBytes.{pair_put}
-use Rattle.next_pairs.proofs.NextPairs.{start_put}
+use borrow.Author.Rules.{rules}
+use Prim.Native.Nat.{◌≤◌}
+use lib.ListN.{length, length-take, length-drop}
+use Rattle.lines.proofs.PairBytes.{zero_bytes}
+use Rattle.next_pairs.proofs.NextPairs.{start_long, start_put}
 use Rattle.next_pairs.proofs.put_start.Goals as goal
 
-pub bounds-out-1 : goal.bounds-out-1
-bounds-out-1 c = simp length-set (omega (arith, c.requires.1))
-
-pub slice_bounds-put_grades-count : goal.slice_bounds-put_grades-count
-slice_bounds-put_grades-count c = simp length-set (omega (arith, c.requires.1))
-
-pub slice_bounds-put_grades-start : goal.slice_bounds-put_grades-start
-slice_bounds-put_grades-start c = simp length-set (omega (arith, c.requires.1))
-
-pub put_grades-requires : goal.put_grades-requires
-put_grades-requires c = (c.requires.0, (start_inside c.requires.0).0, (start_inside c.requires.0).1, simp (length-take, length-drop, length-set) (omega (arith, c.requires.1)))
+pub copy_from_slice-requires : goal.copy_from_slice-requires
+copy_from_slice-requires c = simp (length-take, length-drop) (omega (arith, c.requires, c.n.ensures.is, start_long c.args.chart.now c.start.ensures.is))
 
 pub returns : goal.returns
-returns c = start_put c.requires.0 c.args.out.now (pair_put 0 c.args.out.now _ c.put_grades.new.out (omega (arith, c.requires.1)) c.put_grades.ensures)
+returns c =
+    let l : 2 ≤ length c.args.out.now = omega (arith, c.requires) in
+    rw c.copy_from_slice.ensures.after
+    (start_put c.args.chart.now c.args.out.now l c.n.ensures.is (zero_bytes c.args.out.now l (search rules)) c.start.ensures.is)

@@ -1,25 +1,27 @@
--- `pairs::bad_next` meets its contract. The loop's invariant: the next pairs by the letters passed are on the sheet. Assumes nothing.
-use native.Mathlib.Omega.{arith}
+-- `pairs::bad_next` meets its contract: `find` answers the first letter at which the test fails. Assumes nothing.
+use borrow.Author.Rules.{rules}
 use mathlib.Core.Path.{refl}
-use mathlib.Core.Bool.{true}
-use Rattle.paper.specs.Lists.{all_below}
-use Rattle.paper.specs.Sheets.{next_holds}
-use Rattle.lists.proofs.Tests.{fell, held, all_more}
-use Rattle.pairs.proofs.Holding.{letter_bad, letters_good}
+use native.Mathlib.Omega.{arith}
+use Prim.Native.Nat.{◌<◌}
+use Rattle.std.proofs.Common.{tests}
+use Rattle.std.proofs.lemmas.Iterator.{serves_from_Range}
+use Rattle.paper.specs.Chart.{letters}
+use Rattle.lists.proofs.Methods.{range_find}
+use Rattle.lines.specs.Held.{next_held}
+use Rattle.places.proofs.Search.{answered}
 use Rattle.pairs.proofs.bad_next.Goals as goal
 
-pub loop-x-init : goal.loop-x-init
-unfolding all_below
-loop-x-init c = (omega arith, refl)
-
-pub next_holds-requires : goal.next_holds-requires
-next_holds-requires c = (c.requires.0, c.requires.1, c.requires.2, omega arith)
-
-pub returns-then-not-next_holds : goal.returns-then-not-next_holds
-returns-then-not-next_holds c = letter_bad c.requires.0.lines_in.shaped _ _ _ _ c.loop-x.x (omega arith) c.loop-x.invariant.1 (fell c.next_holds.ensures c.if-not-next_holds.true)
-
-pub loop-x-preserved : goal.loop-x-preserved
-loop-x-preserved c = (omega arith, all_more _ _ c.loop-x.invariant.1 (held c.next_holds.ensures c.if-not-next_holds.false))
+pub find-requires-clause-callable : goal.find-requires-clause-callable
+find-requires-clause-callable c =
+    serves_from_Range (λ x q k. search (rules, tests))
+    (λ x low high y e.
+    let h = c.requires in
+    let l : y.now < letters c.args.indexed.now.sheet.chart.now = omega (arith, c.letters.ensures.is) in
+    search rules)
 
 pub returns : goal.returns
-returns c = letters_good c.requires.0.lines_in.shaped _ _ _ _ c.loop-x.x (omega arith) c.loop-x.invariant.1
+returns c =
+    rw (← c.letters.ensures.is)
+    (answered _ _ c.find.result
+    (range_find _ _ _ c.find.result (next_held c.args.indexed.now.sheet c.args.i) c.letters.result refl c.find.ensures.ran
+    (λ x b q k. search rules)))

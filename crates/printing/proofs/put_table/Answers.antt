@@ -4,8 +4,8 @@ use native.Mathlib.Omega.{arith}
 use Rattle.printing.proofs.TableText.{few, rows_in, rows_put, table_put}
 use Rattle.printing.proofs.put_table.Goals as goal
 
-pub overflow_cast-letters : goal.overflow_cast-letters
-overflow_cast-letters c = omega (arith, few c.requires)
+pub overflow_cast-m : goal.overflow_cast-m
+overflow_cast-m c = omega (arith, few c.requires)
 
 pub put_rows-requires : goal.put_rows-requires
 put_rows-requires c = rows_in c.requires c.put_frame.new.out c.put_frame.auto.out
@@ -17,4 +17,4 @@ pub overflow_add-at : goal.overflow_add-at
 overflow_add-at c = omega (arith, few c.requires)
 
 pub returns : goal.returns
-returns c = table_put c.requires _ _ _ (rows_put c.requires _ _ c.put_frame.ensures c.put_rows.ensures) c.cap_of.ensures c.put_frame-2.ensures
+returns c = table_put c.requires _ _ _ (rows_put c.requires _ _ (rw c.to_be_bytes.ensures at c.put_frame.ensures) c.put_rows.ensures) c.cap_of-cap.ensures c.put_frame-2.ensures

@@ -1,19 +1,36 @@
 -- `row_build::build_rows` meets its contract. Assumes nothing.
-use Rattle.row_build.proofs.RowsBuilt.{back_asks, back_full, rows_asks, rows_full, rows_done}
+use Rattle.row_build.proofs.RowsBuilt.{rooms, back_rooms, back_ready, back_full, rows_ready, rows_full, rows_done}
 use Rattle.rooms.proofs.Rooms.{zeros_of}
+use Rattle.walk.proofs.VectorPlan.{vector_asks}
 use Rattle.row_build.proofs.build_rows.Goals as goal
 
+pub invariant_of-back : goal.invariant_of-back
+invariant_of-back c = record { ready = back_ready _ c.requires.0 _ _ _ _ _ _ c.requires.1 _ c.n-n.ensures.is }
+
 pub grow-requires : goal.grow-requires
-grow-requires c = back_asks _ _ c.requires.0 c.requires.1 _ _ _ _ _ _ c.requires.2
+grow-requires c = vector_asks _ c.n-n.ensures.is (back_rooms _ c.requires.0 _ _ _ _ _ _ c.requires.1)
 
 pub returns-in_default : goal.returns-in_default
-returns-in_default c = back_full _ _ c.requires.0 c.requires.1 _ _ _ _ _ _ c.requires.2 _ _ c.grow.result c.grow.ensures c.in_default.is _ _ _ _ c.zero_all.ensures.0 (zeros_of c.args.reverse_table.now c.grow.new.table c.zero_all.ensures.1 c.grow.auto.table) (zeros_of c.args.reverse_vectors.now c.grow.new.vectors c.zero_all.ensures.2 c.grow.auto.vectors) c.zero_all.ensures.3
+returns-in_default c =
+    back_full _ c.requires.0 _ _ _ _ _ _ c.requires.1 c.in_default.ensures c.zero_all.ensures.0
+    (zeros_of c.args.reverse_table.now c.grow.new.table c.zero_all.ensures.1 c.grow.auto.table)
+    (zeros_of c.args.reverse_vectors.now c.grow.new.vectors c.zero_all.ensures.2 c.grow.auto.vectors) c.zero_all.ensures.3
+
+pub invariant_of-plan : goal.invariant_of-plan
+invariant_of-plan c = record { ready = rows_ready _ c.requires.0 _ _ _ _ _ _ c.requires.1 c.n-n.ensures.is c.in-Some.ensures c.grow.auto.table }
 
 pub grow-requires-2 : goal.grow-requires-2
-grow-requires-2 c = rows_asks _ _ c.requires.0 c.requires.1 _ _ _ _ _ _ c.requires.2 _ _ c.grow.result c.grow.ensures _ c.in-Held.is c.grow.auto.table
+grow-requires-2 c =
+    let r = rooms _ c.requires.0 _ _ _ _ _ _ c.requires.1 in
+    record { table_fits = r.rows; fits = r.places }
 
 pub returns-in_default-grow : goal.returns-in_default-grow
-returns-in_default-grow c = rows_full _ _ c.requires.0 c.requires.1 _ _ _ _ _ _ c.requires.2 _ _ c.grow.result c.grow.ensures _ c.in-Held.is _ _ c.grow-2.result c.grow-2.ensures c.in_default-grow.is _ _ _ _ (zeros_of c.args.table.now c.grow-2.new.table c.zero_all-in_default-grow.ensures.0 c.grow-2.auto.table) (zeros_of c.args.reverse_table.now c.grow.new.table c.zero_all-in_default-grow.ensures.1 c.grow.auto.table) (zeros_of c.args.reverse_vectors.now c.grow.new.vectors c.zero_all-in_default-grow.ensures.2 c.grow.auto.vectors) (zeros_of c.args.rows.now c.grow-2.new.vectors c.zero_all-in_default-grow.ensures.3 c.grow-2.auto.vectors)
+returns-in_default-grow c =
+    rows_full _ c.requires.0 _ _ _ _ _ _ c.requires.1 c.n-n.ensures.is c.in-Some.ensures c.in_default-grow.ensures
+    (zeros_of c.args.table.now c.grow-2.new.table c.zero_all-in_default-grow.ensures.0 c.grow-2.auto.table)
+    (zeros_of c.args.reverse_table.now c.grow.new.table c.zero_all-in_default-grow.ensures.1 c.grow.auto.table)
+    (zeros_of c.args.reverse_vectors.now c.grow.new.vectors c.zero_all-in_default-grow.ensures.2 c.grow.auto.vectors)
+    (zeros_of c.args.rows.now c.grow-2.new.vectors c.zero_all-in_default-grow.ensures.3 c.grow-2.auto.vectors)
 
 pub returns : goal.returns
-returns c = rows_done _ _ c.requires.0 c.requires.1 _ _ _ _ _ _ c.requires.2 _ _ c.grow.result c.grow.ensures _ c.in-Held.is _ _ c.grow-2.result c.grow-2.ensures _ c.in-Held-grow.is
+returns c = rows_done _ c.requires.0 _ _ _ _ _ _ c.requires.1 c.n-n.ensures.is c.in-Some.ensures c.in-Some-grow.ensures

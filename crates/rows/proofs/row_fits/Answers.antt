@@ -11,13 +11,13 @@ returns-then-top-grade_at c = bad_grade _ _ _ _ _ (omega arith)
 
 pub loop-x-init : goal.loop-x-init
 unfolding all_below
-loop-x-init c = (omega arith, refl)
+loop-x-init c = refl
 
 pub returns-then-count-next_at : goal.returns-then-count-next_at
 returns-then-count-next_at c = bad_next _ _ _ _ _ c.loop-x.x (omega arith) (omega arith)
 
 pub loop-x-preserved : goal.loop-x-preserved
-loop-x-preserved c = (omega arith, more_next _ _ _ 0 _ _ c.loop-x.invariant.1 (omega arith))
+loop-x-preserved c = more_next _ _ _ 0 _ _ c.loop-x.invariant (omega arith)
 
 pub returns : goal.returns
-returns c = good_row _ _ _ _ _ c.loop-x.x (omega arith) c.loop-x.invariant.1 (omega arith)
+returns c = good_row _ _ _ _ _ c.loop-x.x (omega arith) c.loop-x.invariant (omega arith)

@@ -2,13 +2,9 @@
 -- Assumes nothing.
 use mathlib.Core.Path.{◌≡◌}
 use mathlib.Core.Bool.{true}
-use Prim.Native.Nat.{◌≤◌, ◌-◌}
 use Rattle.paper.specs.Lists.{all_below}
 use Rattle.paper.specs.Tables.{next_fits}
 use Rattle.rows.proofs.row_fits.Given as goal
 
 abbrev pub invariant-loop-x : goal.invariant-loop-x
-invariant-loop-x l = (l.x ≤ l.m) × (all_below l.x (next_fits l.rows l.count l.m l.s) ≡ true)
-
-abbrev pub decreases-loop-x : goal.decreases-loop-x
-decreases-loop-x l = l.m - l.x
+invariant-loop-x l = all_below l.x (next_fits l.rows l.count l.m l.s) ≡ true

@@ -1,28 +1,24 @@
--- `rows::table_fits` meets its contract. The loop's invariant: the rows passed fit.
--- Assumes nothing.
+-- `rows::table_fits` meets its contract. Assumes nothing.
 use mathlib.Core.Path.{refl}
-use native.Mathlib.Omega.{arith}
-use Rattle.paper.specs.Lists.{all_below}
-use Rattle.lists.proofs.Tests.{fell, held, all_more}
+use Rattle.std.proofs.Common.{rules, tests, sym}
+use Rattle.std.proofs.lemmas.Iterator.{serves_from_Range}
+use Rattle.paper.specs.Lists.{both}
+use Rattle.paper.specs.Tables.{row_fits, table_fits}
+use Rattle.lists.proofs.Methods.{range_all}
 use Rattle.rows.proofs.Rows.{row_in}
-use Rattle.rows.proofs.TableTest.{table_size, table_row, table_good}
 use Rattle.rows.proofs.table_fits.Goals as goal
 
-pub returns-then-not-size_fits : goal.returns-then-not-size_fits
-returns-then-not-size_fits c = table_size _ _ _ _ (fell c.size_fits.ensures c.if-not-size_fits.true)
+pub all-requires-clause-callable : goal.all-requires-clause-callable
+all-requires-clause-callable c =
+    serves_from_Range (λ x q k. search (rules, tests))
+    (λ x low high. let r = row_in c.args.rows.now c.args.count c.args.m x (sym c.if-size_fits.ensures) high in search rules)
 
-pub loop-s-init : goal.loop-s-init
-unfolding all_below
-loop-s-init c = (omega arith, held c.size_fits.ensures c.if-not-size_fits.false, refl)
+pub returns-then-size_fits : goal.returns-then-size_fits
+unfolding table_fits both
+returns-then-size_fits c =
+    let e = range_all _ _ c.all.result (row_fits c.args.rows.now c.args.count c.args.m c.args.top) c.args.count refl c.all.ensures.ran (λ x b q k. search (rules, tests)) in
+    rw (← c.if-size_fits.ensures) e
 
-pub row_fits-requires : goal.row_fits-requires
-row_fits-requires c = row_in _ _ _ _ c.loop-s.invariant.1 (omega arith)
-
-pub returns-then-not-row_fits : goal.returns-then-not-row_fits
-returns-then-not-row_fits c = table_row _ _ _ _ c.loop-s.s c.loop-s.invariant.1 (omega arith) (fell c.row_fits.ensures c.if-not-row_fits.true)
-
-pub loop-s-preserved : goal.loop-s-preserved
-loop-s-preserved c = (omega arith, c.loop-s.invariant.1, all_more _ _ c.loop-s.invariant.2 (held c.row_fits.ensures c.if-not-row_fits.false))
-
-pub returns : goal.returns
-returns c = table_good _ _ _ _ c.loop-s.s c.loop-s.invariant.1 (omega arith) c.loop-s.invariant.2
+pub returns-else-size_fits : goal.returns-else-size_fits
+unfolding table_fits both
+returns-else-size_fits c = rw (c.if-size_fits.false, ← c.if-size_fits.ensures) refl

@@ -1,13 +1,12 @@
 -- `settle::put_two` meets its contract. Assumes nothing.
-use lib.ListN.{length-set}
+use mathlib.Core.Path.{◌≡◌}
 use native.Mathlib.Omega.{arith}
+use Prim.Native.Nat.{◌+◌, ◌-◌}
+use lib.Seq.{drop-drop}
 use Rattle.paper.specs.Tables.{two_bytes}
-use Rattle.places.proofs.Memory.{set_two}
+use Rattle.places.specs.Memory.{spliced}
 use Rattle.settle.proofs.put_two.Goals as goal
 
-pub bounds-row-at-2 : goal.bounds-row-at-2
-bounds-row-at-2 c = simp length-set (omega arith)
-
 pub returns : goal.returns
-unfolding two_bytes
-returns c = set_two _ _ _ _ c.requires
+unfolding two_bytes spliced
+returns c = let e : c.args.at + 2 - c.args.at ≡ 2 = omega arith in rw (e, c.copy_from_slice.ensures.after, c.to_be_bytes.ensures, drop-drop)

@@ -1,15 +1,10 @@
--- `sheets::check_pairs` meets its contract: an empty index is filled with the lines. Assumes nothing.
-use native.Mathlib.Omega.{arith}
-use Rattle.lists.proofs.Tests.{fell, held}
-use Rattle.marks.proofs.ChainLaws.{chained_none}
+-- `sheets::check_pairs` meets its contract: the lines are indexed, then the start pair and the lines are looked up. Assumes nothing.
+use mathlib.Core.Path.{sym}
 use Rattle.sheets.proofs.Answers.{start_wrong, start_right}
 use Rattle.sheets.proofs.check_pairs.Goals as goal
 
-pub index_lines-requires : goal.index_lines-requires
-index_lines-requires c = (c.requires.lines_in, chained_none _ _ _ c.no_heads-heads.ensures, omega (arith, c.requires.lines_in.few, c.no_links-links.ensures), omega (arith, c.requires.lines_in.few, c.no_marks-marks.ensures))
-
 pub returns-then-not-start_holds : goal.returns-then-not-start_holds
-returns-then-not-start_holds c = start_wrong _ _ _ _ (fell c.start_holds.ensures c.if-not-start_holds.true)
+returns-then-not-start_holds c = rw (← c.new-indexed.ensures) (start_wrong c.new-indexed.result.sheet (sym c.if-not-start_holds.ensures))
 
 pub returns : goal.returns
-returns c = start_right _ _ _ _ (held c.start_holds.ensures c.if-not-start_holds.false) c.check_lines.ensures
+returns c = rw (← c.new-indexed.ensures) (start_right c.new-indexed.result.sheet (sym c.if-not-start_holds.ensures) c.check_lines.ensures)

@@ -1,21 +1,13 @@
--- `tables::bad_letter` meets its contract. The loop's invariant: the letters passed are below m.
--- Assumes nothing.
-use mathlib.Core.Path.{refl}
-use native.Mathlib.Omega.{arith}
-use Rattle.paper.specs.Lists.{all_below}
-use Rattle.places.proofs.Search.{answered_at, answered_none}
-use Rattle.tables.proofs.Walks.{bad_is, bad_none, more_letter}
+-- `tables::bad_letter` meets its contract. Assumes nothing.
+use Rattle.std.proofs.Common.{◌<◌, ◌≤◌, rules, tests}
+use Rattle.std.proofs.lemmas.Iterator.{IsFirst-from_position, YieldsList-from_slice}
+use Rattle.tables.proofs.Walks.{bad_by}
 use Rattle.tables.proofs.bad_letter.Goals as goal
 
-pub loop-i-init : goal.loop-i-init
-unfolding all_below
-loop-i-init c = (omega arith, refl)
-
-pub returns-then-m-wide : goal.returns-then-m-wide
-returns-then-m-wide c = answered_at _ _ c.loop-i.i (bad_is _ _ _ (omega arith) c.loop-i.invariant.1 (omega arith)) (omega arith)
-
-pub loop-i-preserved : goal.loop-i-preserved
-loop-i-preserved c = (omega arith, more_letter _ _ _ c.loop-i.invariant.1 (omega arith))
-
 pub returns : goal.returns
-returns c = answered_none _ _ (bad_none _ _ c.loop-i.i (omega arith) c.loop-i.invariant.1)
+returns c =
+    bad_by c.args.word.now c.args.m c.position.result
+    (IsFirst-from_position _ _ _ (λ x. c.args.m ≤ x) (λ x. x < c.args.m) c.position.ensures.ran
+    (YieldsList-from_slice c.args.word.now cc)
+    (λ x q k. search (rules, tests))
+    (λ x q k. search (rules, tests)))

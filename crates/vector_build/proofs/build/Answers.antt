@@ -1,19 +1,35 @@
 -- `vector_build::build` meets its contract. Assumes nothing.
+use mathlib.Core.List.{[]}
 use native.Mathlib.Omega.{arith}
 use Rattle.lists.proofs.Tests.{fell, held}
-use Rattle.vector_build.proofs.Built.{room_read, build_room, build_full, build_done}
-use Rattle.walk.proofs.VectorPlan.{vector_asks}
+use Rattle.vector_build.proofs.Built.{room_read, room_parts, build_room, build_full, build_done}
+use Rattle.walk.proofs.VectorPlan.{vector_ready, vector_asks}
 use Rattle.rooms.proofs.Rooms.{zeros_of}
 use Rattle.vector_build.proofs.build.Goals as goal
 
 pub returns-then-not-room_fits : goal.returns-then-not-room_fits
-returns-then-not-room_fits c = build_room c.args.kind _ _ c.requires.1 c.requires.2 _ _ _ (room_read c.args.kind _ _ c.requires.1 c.requires.2 _ _ _ (fell c.room_fits.ensures c.if-not-room_fits.true))
+returns-then-not-room_fits c =
+    build_room c.args.kind _ c.requires.1 _ _ _
+    (room_read c.args.kind _ c.requires.1 _ _ _ c.letters.ensures.is c.n-n.ensures.is (fell c.room_fits.ensures c.if-not-room_fits.true))
+
+pub invariant_of-plan : goal.invariant_of-plan
+invariant_of-plan c =
+    let ok = room_read c.args.kind _ c.requires.1 _ _ _ c.letters.ensures.is c.n-n.ensures.is (held c.room_fits.ensures c.if-not-room_fits.false) in
+    record { ready = vector_ready c.args.kind _ c.requires.0 c.requires.1 (room_parts c.args.kind _ c.requires.1 _ _ _ ok) (omega arith) _ c.n-n.ensures.is }
 
 pub grow-requires : goal.grow-requires
-grow-requires c = vector_asks _ _ _ c.requires.0 c.requires.1 c.requires.2 4096 _ _ _ _ (omega arith) (held c.room_fits.ensures c.if-not-room_fits.false)
+grow-requires c =
+    let ok = room_read c.args.kind _ c.requires.1 _ _ _ c.letters.ensures.is c.n-n.ensures.is (held c.room_fits.ensures c.if-not-room_fits.false) in
+    vector_asks _ c.n-n.ensures.is (room_parts c.args.kind _ c.requires.1 _ _ _ ok)
 
 pub returns-in_default : goal.returns-in_default
-returns-in_default c = build_full c.args.kind _ _ c.requires.1 c.requires.2 _ _ _ (room_read c.args.kind _ _ c.requires.1 c.requires.2 _ _ _ (held c.room_fits.ensures c.if-not-room_fits.false)) _ _ c.grow.result c.grow.ensures c.in_default.is _ _ (zeros_of c.args.table.now c.grow.new.table c.zero.ensures c.grow.auto.table) (zeros_of c.args.vectors.now c.grow.new.vectors c.zero-in_default.ensures c.grow.auto.vectors)
+returns-in_default c =
+    let ok = room_read c.args.kind _ c.requires.1 _ _ _ c.letters.ensures.is c.n-n.ensures.is (held c.room_fits.ensures c.if-not-room_fits.false) in
+    build_full c.args.kind c.requires.0 _ [] c.requires.1 _ _ c.n-n.ensures.is _ _ ok c.in_default.ensures
+    (zeros_of c.args.table.now c.grow.new.table (c.fill.ensures.after (λ y e. e)) c.grow.auto.table)
+    (zeros_of c.args.vectors.now c.grow.new.vectors (c.fill-in_default.ensures.after (λ y e. e)) c.grow.auto.vectors)
 
 pub returns : goal.returns
-returns c = build_done c.args.kind _ _ c.requires.1 c.requires.2 _ _ _ (room_read c.args.kind _ _ c.requires.1 c.requires.2 _ _ _ (held c.room_fits.ensures c.if-not-room_fits.false)) _ _ c.grow.result c.grow.ensures _ c.in-Held.is
+returns c =
+    let ok = room_read c.args.kind _ c.requires.1 _ _ _ c.letters.ensures.is c.n-n.ensures.is (held c.room_fits.ensures c.if-not-room_fits.false) in
+    build_done c.args.kind c.requires.0 _ [] c.requires.1 _ _ c.n-n.ensures.is _ _ ok c.in-Some.ensures

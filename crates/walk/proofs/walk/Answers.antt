@@ -1,20 +1,16 @@
--- `walk::walk` meets its contract. The loop's invariant: `WalkTo`, and lent arrays keep their lengths. Assumes nothing.
-use mathlib.Core.Path.{refl, ◌∙◌}
+-- `walk::walk` meets its contract. The loop's invariant: `WalkTo`. Assumes nothing.
 use native.Mathlib.Omega.{arith}
-use Rattle.walk.proofs.Walking.{walk_none, walk_asks, walk_stops, walk_goes, walk_all}
+use Rattle.walk.proofs.Walking.{walk_none, walk_full, walk_more, walk_all}
 use Rattle.walk.proofs.walk.Goals as goal
 
 pub loop-i-init : goal.loop-i-init
-loop-i-init c = (walk_none _ _ _ _ _ _ c.requires, refl, refl, refl)
+loop-i-init c = walk_none _ _ _ _ c.requires
 
-pub expand-requires : goal.expand-requires
-expand-requires c = walk_asks _ _ _ _ _ c.loop-i.invariant.0 c.requires (omega arith)
-
-pub returns-in_default : goal.returns-in_default
-returns-in_default c = walk_stops _ _ _ _ _ c.loop-i.invariant.0 (omega arith) _ _ _ c.expand.result c.expand.ensures c.in_default.is
+pub returns-in_err-held : goal.returns-in_err-held
+returns-in_err-held c = rw c.from_residual.ensures (walk_full _ _ _ c.loop-i.invariant (omega arith) c.in_err-held.ensures)
 
 pub loop-i-preserved : goal.loop-i-preserved
-loop-i-preserved c = (walk_goes _ _ _ _ _ c.loop-i.invariant.0 (omega arith) _ _ _ c.expand.result c.expand.ensures _ c.in-Held.is c.expand.auto.table, c.expand.auto.heads ∙ c.loop-i.invariant.1, c.expand.auto.links ∙ c.loop-i.invariant.2, c.expand.auto.marks ∙ c.loop-i.invariant.3)
+loop-i-preserved c = walk_more _ _ _ c.loop-i.invariant (omega arith) c.in_ok-held.ensures c.expand.auto.table
 
 pub returns : goal.returns
-returns c = walk_all _ _ _ _ _ c.loop-i.invariant.0 (omega arith)
+returns c = walk_all _ _ _ c.loop-i.invariant (omega arith)

@@ -1,11 +1,7 @@
 -- `card::inner::cap_of` meets its contract. The loop's invariant: the grades of s states are joined.
 -- Assumes nothing.
-use Prim.Native.Nat.{◌-◌}
 use Rattle.card.proofs.Caps.{Joined}
 use Rattle.card.proofs.inner.cap_of.Given as goal
 
 abbrev pub invariant-loop-s : goal.invariant-loop-s
-invariant-loop-s l = Joined l.chart l.shape l.rows l.count l.m l.s l.cap
-
-abbrev pub decreases-loop-s : goal.decreases-loop-s
-decreases-loop-s l = l.count - l.s
+invariant-loop-s l = Joined l.chart l.rows l.count l.m l.s l.cap

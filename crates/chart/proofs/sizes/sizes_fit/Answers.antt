@@ -1,28 +1,14 @@
--- `chart::sizes::sizes_fit` meets its contract: the sizes are in range exactly where no test returned. Assumes nothing.
+-- `chart::sizes::sizes_fit` meets its contract. Assumes nothing.
 use native.Mathlib.Omega.{arith}
-use Rattle.chart.proofs.Ranges.{sizes_pass, sizes_fail}
+use Rattle.std.proofs.lemmas.Bool.Decides.{nat_tests}
+use Rattle.paper.specs.Lists.{both}
+use Rattle.paper.specs.Check.{sizes_fit}
 use Rattle.chart.proofs.sizes.sizes_fit.Goals as goal
 
-pub returns-then-k-lt2 : goal.returns-then-k-lt2
-returns-then-k-lt2 c = sizes_fail _ _ _ _ (λ s. omega arith)
+pub returns-then-contains-2 : goal.returns-then-contains-2
+unfolding sizes_fit both
+returns-then-contains-2 c = grind (arith, nat_tests)
 
-pub returns-then-k-gt16 : goal.returns-then-k-gt16
-returns-then-k-gt16 c = sizes_fail _ _ _ _ (λ s. omega arith)
-
-pub returns-then-k-e : goal.returns-then-k-e
-returns-then-k-e c = sizes_fail _ _ _ _ (λ s. omega arith)
-
-pub returns-then-n-lt1 : goal.returns-then-n-lt1
-returns-then-n-lt1 c = sizes_fail _ _ _ _ (λ s. omega arith)
-
-pub returns-then-n-gt24 : goal.returns-then-n-gt24
-returns-then-n-gt24 c = sizes_fail _ _ _ _ (λ s. omega arith)
-
-pub returns-then-m-lt1 : goal.returns-then-m-lt1
-returns-then-m-lt1 c = sizes_fail _ _ _ _ (λ s. omega arith)
-
-pub returns-then-m-gt16 : goal.returns-then-m-gt16
-returns-then-m-gt16 c = sizes_fail _ _ _ _ (λ s. omega arith)
-
-pub returns : goal.returns
-returns c = sizes_pass (search)
+pub returns-else-contains-2 : goal.returns-else-contains-2
+unfolding sizes_fit both
+returns-else-contains-2 c = grind (arith, nat_tests)
