@@ -5,11 +5,12 @@ use mathlib.Core.List.{List, []}
 use Prim.Native.Nat.{ℕ}
 use lib.ListN.{length}
 use Rattle.paper.specs.Lists.{both}
-use Rattle.paper.specs.Chart.{n_of, letters}
 use Rattle.paper.specs.Check.{chart_fits}
 use Rattle.replies.specs.Replies.{said}
 use Rattle.paper.specs.Builders.{room_fits, state_most, reverse_most, Lent, Backward, backward_room, brzozowski}
 use Rattle.replies.specs.declared.Refusal.{Refusal}
+use Rattle.replies.specs.declared.Shape.{Shape}
+use Rattle.cells.specs.Shaped.{Shaped}
 use Rattle.std.specs.Prelude.{Ok, Err}
 use Rattle.chart.specs.Opened.{Opened}
 use Rattle.row_build.specs.Lent.{lent}
@@ -34,8 +35,8 @@ module _ (c : List ℕ) (room reverse : ℕ) (l : Lent) where
     both_opened p = p ∙ ap (λ (w : List ℕ). brzozowski w room reverse l) e.1
 
 -- the rooms as the code tests them
-pub rooms_read : (c : List ℕ) (room reverse : ℕ) (table rt rv rows : List ℕ) {b : Bool} →
-    both (room_fits state_most (letters c) reverse room (length table) (length rows)) (room_fits reverse_most (letters c) (n_of c) reverse (length rt) (length rv)) ≡ b →
+pub rooms_read : {c : List ℕ} {s : Shape} (room reverse : ℕ) (table rt rv rows : List ℕ) {b : Bool} → Shaped c s →
+    both (room_fits state_most s.letters reverse room (length table) (length rows)) (room_fits reverse_most s.letters s.n reverse (length rt) (length rv)) ≡ b →
     backward_room c room reverse (lent table rt rv rows) ≡ b
 unfolding backward_room
-rooms_read c room reverse table rt rv rows e = e
+rooms_read room reverse table rt rv rows h e = rw (← h.letters_is, ← h.n_is) e

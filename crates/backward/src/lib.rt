@@ -1,23 +1,22 @@
 // The Brzozowski table of a chart: the reverse table first, then the rows over it.
 #![tactic(auto)]
 
-ghost use Rattle.std.specs.Prelude.{◌≡◌, true};
+ghost use Rattle.std.specs.Prelude.{◌≡◌, true, ◌≤◌};
 ghost use Rattle.replies.specs.Replies.{both_said};
 ghost use Rattle.paper.specs.Builders.{brzozowski, state_most, reverse_most, room_fits};
 ghost use Rattle.row_build.specs.Lent.{lent};
-ghost use Rattle.paper.specs.Chart.{n_of, letters};
 ghost use Rattle.paper.specs.Check.{chart_fits};
 ghost use Rattle.paper.specs.Lists.{both};
 
 use cells::Chart;
 use chart::open;
-use replies::{Both, Refusal};
+use replies::{Both, Refusal, Shape};
 use rooms::room_fits;
 use row_build::build_rows;
 
 // Whether both rooms of the Brzozowski table are in range, and rows and places for them are lent.
 pub fn rooms_fit(
-    chart: &Chart,
+    shape: Shape,
     room: usize,
     reverse: usize,
     table: usize,
@@ -25,17 +24,17 @@ pub fn rooms_fit(
     reverse_table: usize,
     reverse_vectors: usize,
 ) -> bool
-    ensures { result ≡ both (room_fits state_most (letters chart.now) reverse room table rows) (room_fits reverse_most (letters chart.now) (n_of chart.now) reverse reverse_table reverse_vectors) }
+    requires { (shape.letters ≤ 16) × (shape.n ≤ 24) }
+    ensures { result ≡ both (room_fits state_most shape.letters reverse room table rows) (room_fits reverse_most shape.letters shape.n reverse reverse_table reverse_vectors) }
 {
-    let letters = chart.letters();
     room_fits(
         128,
-        letters,
-        chart.n(),
+        shape.letters,
+        shape.n,
         reverse,
         reverse_table,
         reverse_vectors,
-    ) && room_fits(4096, letters, reverse, room, table, rows)
+    ) && room_fits(4096, shape.letters, reverse, room, table, rows)
 }
 
 // The Brzozowski table of a checked chart, the rooms tested first.
@@ -52,7 +51,7 @@ pub fn build_both(
     ensures { record { reply = both_said result; left = lent table.new reverse_table.new reverse_vectors.new rows.new } ≡ brzozowski chart.now room reverse (lent table.old reverse_table.old reverse_vectors.old rows.old) }
 {
     if !rooms_fit(
-        chart,
+        chart.shape(),
         room,
         reverse,
         table.len(),

@@ -34,6 +34,16 @@ impl<'a> Chart<'a> {
         Chart { bytes, shape }
     }
 
+    // The same chart, as a value of the caller's own. A loop that writes does not read sizes and offsets of it anew at each turn.
+    pub fn copy(&self) -> Self
+        ensures { result ≡ self.now }
+    {
+        Chart {
+            bytes: self.bytes,
+            shape: self.shape,
+        }
+    }
+
     // Its sizes, and where its parts begin.
     pub fn shape(&self) -> Shape
         ensures { Shaped self.now result }
@@ -140,7 +150,7 @@ fn part(bytes: &[u8], from: usize, n: usize) -> &[u8]
 }
 
 // The byte at a row and a column of a part that is laid out in rows of one width.
-fn cell(bytes: &[u8], from: usize, row: usize, width: usize, col: usize) -> u8
+pub fn cell(bytes: &[u8], from: usize, row: usize, width: usize, col: usize) -> u8
     requires { from + (row * width + col) < length bytes.now }
     ensures { result ≡ get_or bytes.now (from + (row * width + col)) 0 }
 {

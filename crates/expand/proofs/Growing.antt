@@ -76,4 +76,4 @@ module _ {p : Plan} {i held : ℕ} {table vectors : List ℕ} {index : Index} (a
     copy_is = e
 
     pub copy_asks : Asks p held (take p.width copy) vectors index
-    copy_asks = record { roomy = a.roomy; value = rw copy_is (a.holds.valued.values i a.below); holds = a.holds }
+    copy_asks = record { ready = a.ready; roomy = a.roomy; value = rw copy_is (a.holds.valued.values i a.below); holds = a.holds }

@@ -16,7 +16,7 @@ use Rattle.algebra.specs.Sizes.{Sizes}
 use Rattle.algebra.proofs.Checked.{sound, fits_ranged, head_sizes, letters_bound}
 use Rattle.algebra.proofs.Vectors.{length_row, length_col, length_start, length_end, start_grades, end_grades, row_grades, col_grades}
 use Rattle.cells.specs.Shaped.{Grades, Vector, Part}
-use Rattle.kinds.specs.Kinds.{grades_in, next_row, next_row_at, first_by, step_by, key_by, key_size, keyed, made}
+use Rattle.kinds.specs.Kinds.{grades_in, next_row, next_row_at, first_by, step_by, key_by, key_size, keyed, made, Ready}
 use Rattle.kinds.specs.Ready.{Value, of_vectors, Reverses}
 use Rattle.kinds.specs.declared.Kind.{Kind}
 use Rattle.kinds.specs.declared.Kind.TheVariants.{Nerode, Reduced, Reverse, Rows}
@@ -46,10 +46,10 @@ keyed_is Rows e = absurd (false≢true e)
 -- ---- the sizes of a plan
 
 pub plan_sizes : (p : Plan) → Sizes (k_of p.chart.now) (e_of p.chart.now) (n_of p.chart.now) (m_of p.chart.now)
-plan_sizes p = head_sizes p.chart.now (fits_ranged p.chart.now p.ready.fits)
+plan_sizes p = head_sizes p.chart.now (fits_ranged p.chart.now p.sized.fits)
 
 pub plan_letters : (p : Plan) → (1 ≤ letters p.chart.now) × (letters p.chart.now ≤ 16)
-plan_letters p = letters_bound p.chart.now (fits_ranged p.chart.now p.ready.fits)
+plan_letters p = letters_bound p.chart.now (fits_ranged p.chart.now p.sized.fits)
 
 -- every place of a key is below 385
 pub key_small : (p : Plan) → letters p.chart.now * n_of p.chart.now ≤ 384
@@ -62,24 +62,24 @@ as_grades h e = record { long = rw h.long (omega arith); low = λ p l. h.low p (
 
 -- where values are vectors, a value is one of the chart's
 pub as_vector : (p : Plan) {v : List ℕ} → of_vectors p.kind ≡ true → Value (k_of p.chart.now) p.width v → Vector p.chart.now v
-as_vector p e a = as_grades a (p.ready.vectors e)
+as_vector p e a = as_grades a (p.sized.vectors e)
 
 -- the first vector fits where a value does
 pub start_fits : (p : Plan) {v : List ℕ} {l : ℕ} → ((p.kind ≡ Kind.Nerode) ⊎ (p.kind ≡ Kind.Reduced)) → Part p.chart.now (start_vec p.chart.now) v → p.width ≤ l → length v ≤ l
 start_fits p k e h = rw e.is (omega (arith, length_start p.chart.now, wide k))
   where
     wide : ((p.kind ≡ Kind.Nerode) ⊎ (p.kind ≡ Kind.Reduced)) → p.width ≡ n_of p.chart.now
-    wide (inl e) = p.ready.vectors (rw e)
-    wide (inr e) = p.ready.vectors (rw e)
+    wide (inl e) = p.sized.vectors (rw e)
+    wide (inr e) = p.sized.vectors (rw e)
 
 pub end_fits : (p : Plan) {v : List ℕ} {l : ℕ} → p.kind ≡ Kind.Reverse → Part p.chart.now (end_vec p.chart.now) v → p.width ≤ l → length v ≤ l
-end_fits p k e h = rw e.is (omega (arith, length_end p.chart.now, p.ready.vectors (rw k)))
+end_fits p k e h = rw e.is (omega (arith, length_end p.chart.now, p.sized.vectors (rw k)))
 
 -- what the next row asks for
-pub rows_asked : (p : Plan) {m x l : ℕ} {v : List ℕ} → p.kind ≡ Kind.Rows → m ≡ letters p.chart.now → x < letters p.chart.now → Value (k_of p.chart.now) p.width v → p.width ≤ l →
+pub rows_asked : (p : Plan) {m x l : ℕ} {v : List ℕ} → Ready p → p.kind ≡ Kind.Rows → m ≡ letters p.chart.now → x < letters p.chart.now → Value (k_of p.chart.now) p.width v → p.width ≤ l →
     (x < m) × (m ≤ 16) × (p.width ≡ length v) × Reverses p.reverse.now m 256 p.width × (p.width ≤ l)
-rows_asked p k e x v h =
-    let r = p.ready.rows k in (
+rows_asked p a k e x v h =
+    let r = a k in (
       omega arith,
       omega (arith, (plan_letters p).1),
       sym v.long,
@@ -130,11 +130,11 @@ module _ (c t : List ℕ) (w : ℕ) (fits : chart_fits c ≡ true) where
   step_value Reverse e r x l v a = vector_value c _ (e refl) (length_col c x v) (col_grades c (sound c fits) x v l (vector_low c (e refl) a))
   step_value Rows e r x l v a = rows_step t (letters c) (k_of c) w (r refl) x l v a
 
-pub made_first : (p : Plan) → Value (k_of p.chart.now) p.width (made p).first
-made_first p = first_value p.chart.now p.reverse.now p.width p.ready.fits p.kind p.ready.vectors p.ready.rows
+pub made_first : (p : Plan) → Ready p → Value (k_of p.chart.now) p.width (made p).first
+made_first p r = first_value p.chart.now p.reverse.now p.width p.sized.fits p.kind p.sized.vectors r
 
-pub made_step : (p : Plan) (x : ℕ) → x < letters p.chart.now → (v : List ℕ) → Value (k_of p.chart.now) p.width v → Value (k_of p.chart.now) p.width ((made p).step x v)
-made_step p = step_value p.chart.now p.reverse.now p.width p.ready.fits p.kind p.ready.vectors p.ready.rows
+pub made_step : (p : Plan) → Ready p → (x : ℕ) → x < letters p.chart.now → (v : List ℕ) → Value (k_of p.chart.now) p.width v → Value (k_of p.chart.now) p.width ((made p).step x v)
+made_step p r = step_value p.chart.now p.reverse.now p.width p.sized.fits p.kind p.sized.vectors r
 
 -- ---- rows, read from the reverse table
 

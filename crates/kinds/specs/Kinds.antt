@@ -1,13 +1,14 @@
 -- The four constructions that one walk makes, by kind. Rows are made from the bytes t of a reverse table of r states and m letters.
-use Rattle.std.specs.Prelude.{Bool, true, false, List, ℕ, ◌+◌, ◌*◌, get_or}
+use Rattle.std.specs.Prelude.{◌≡◌, Bool, true, false, List, ℕ, ◌+◌, ◌*◌, get_or}
 use Rattle.paper.specs.Lists.{tabulate, part, same_list}
-use Rattle.paper.specs.Chart.{n_of, letters, start_vec, end_vec}
+use Rattle.paper.specs.Chart.{k_of, n_of, letters, start_vec, end_vec}
 use Rattle.paper.specs.Vectors.{row_times, times_col, end_grade, start_grade}
 use Rattle.paper.specs.Numbering.{itself}
 use Rattle.paper.specs.Tables.{grade_at, next_at}
 use Rattle.paper.specs.Constructions.{Construction, reduced_key, row_grade}
 use Rattle.kinds.specs.declared.Kind.{Kind}
 use Rattle.kinds.specs.declared.Kind.TheVariants.{Nerode, Reduced, Reverse, Rows}
+use Rattle.kinds.specs.Ready.{Reverses}
 use Rattle.kinds.specs.declared.plan.Plan.{Plan}
 
 -- the reverse table's grade bytes
@@ -69,6 +70,10 @@ made_by kind c t m r = record { first = first_by kind c t m r; step = step_by ki
 -- what a plan makes of its chart and its reverse table
 abbrev pub made : Plan → Construction
 made p = made_by p.kind p.chart.now p.reverse.now (letters p.chart.now) p.width
+
+-- first values and steps can be made: rows come from a table of the reverse states; the others need none
+abbrev pub Ready : Plan → Type 0
+Ready p = p.kind ≡ Kind.Rows → Reverses p.reverse.now (letters p.chart.now) (k_of p.chart.now) p.width
 
 abbrev pub vectors_by : Kind → List ℕ → Construction
 vectors_by kind c = made_by kind c c (letters c) (n_of c)

@@ -1,7 +1,7 @@
 -- What the functions of the constructions require.
 use Rattle.std.specs.Prelude.{◌≡◌, Bool, true, false, List, ℕ, ◌*◌, ◌≤◌, ◌<◌, length, get_or}
 use Rattle.paper.specs.Check.{chart_fits}
-use Rattle.paper.specs.Chart.{k_of, n_of, letters}
+use Rattle.paper.specs.Chart.{n_of}
 use Rattle.paper.specs.Tables.{row_size, grade_at, next_at}
 use Rattle.kinds.specs.declared.Kind.{Kind}
 use Rattle.kinds.specs.declared.Kind.TheVariants.{Nerode, Reduced, Reverse, Rows}
@@ -24,11 +24,10 @@ pub record Reverses (t : List ℕ) (m k r : ℕ) : Type 0 where
   pub grades : (i : ℕ) → i < r → grade_at t m i < k
   pub nexts : (i x : ℕ) → i < r → x < m → next_at t m i x < r
 
--- the chart c is not refused, and the sizes are in range: vectors are as wide as it has states, and rows are made from such a table t
-pub record Ready (kind : Kind) (c t : List ℕ) (width stride room : ℕ) : Type 0 where
+-- the chart c is not refused, and the sizes are in range: vectors are as wide as it has states
+pub record Sized (kind : Kind) (c : List ℕ) (width stride room : ℕ) : Type 0 where
   pub fits : chart_fits c ≡ true
   pub vectors : of_vectors kind ≡ true → width ≡ n_of c
-  pub rows : kind ≡ Kind.Rows → Reverses t (letters c) (k_of c) width
   pub width_low : 1 ≤ width
   pub inside : width ≤ stride
   pub stride_high : stride ≤ 128

@@ -1,5 +1,5 @@
 // The plan by which a construction is made.
-ghost use Rattle.kinds.specs.Ready.{Ready};
+ghost use Rattle.kinds.specs.Ready.{Sized};
 
 use crate::Kind;
 use cells::Chart;
@@ -14,5 +14,5 @@ pub struct Plan<'a> {
     pub width: usize,
     pub stride: usize,
     pub room: usize,
-    pub ghost ready: { Ready kind chart.now reverse.now width stride room },
+    pub ghost sized: { Sized kind chart.now width stride room },
 }

@@ -11,7 +11,7 @@ pub mod sheet;
 use cells::Chart;
 
 // The state of line i.
-pub(crate) fn line_state(chart: &Chart, sheet: &[u8], i: usize) -> usize
+pub fn line_state(chart: &Chart, sheet: &[u8], i: usize) -> usize
     requires { LineIn chart.now sheet.now i }
     ensures { result ≡ line_state chart.now sheet.now i }
 {
@@ -20,7 +20,7 @@ pub(crate) fn line_state(chart: &Chart, sheet: &[u8], i: usize) -> usize
 }
 
 // The bytes of line i, as the part of the sheet that holds them.
-pub(crate) fn line_bytes<'a>(chart: &Chart, sheet: &'a [u8], i: usize) -> &'a [u8]
+pub fn line_bytes<'a>(chart: &Chart, sheet: &'a [u8], i: usize) -> &'a [u8]
     requires { LineIn chart.now sheet.now i }
     ensures { result.now ≡ line_at chart.now sheet.now i }
 {
@@ -30,7 +30,7 @@ pub(crate) fn line_bytes<'a>(chart: &Chart, sheet: &'a [u8], i: usize) -> &'a [u
 }
 
 // The vector of line i, as the part of the sheet that holds it.
-pub(crate) fn line_vector<'a>(chart: &Chart, sheet: &'a [u8], i: usize) -> &'a [u8]
+pub fn line_vector<'a>(chart: &Chart, sheet: &'a [u8], i: usize) -> &'a [u8]
     requires { LineIn chart.now sheet.now i }
     ensures { result.now ≡ line_vector chart.now sheet.now i }
 {
@@ -40,7 +40,7 @@ pub(crate) fn line_vector<'a>(chart: &Chart, sheet: &'a [u8], i: usize) -> &'a [
 }
 
 // Whether line i's state is below the count, and its vector one of grades.
-fn line_fits(chart: &Chart, count: usize, sheet: &[u8], i: usize) -> bool
+pub fn line_fits(chart: &Chart, count: usize, sheet: &[u8], i: usize) -> bool
     requires { LineIn chart.now sheet.now i }
     ensures { result ≡ line_fits chart.now count sheet.now i }
 {

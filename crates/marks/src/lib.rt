@@ -19,7 +19,7 @@ pub fn mark(key: &[u8]) -> u32
 }
 
 // Whether two slices hold the same bytes: every comparison of keys, values and pairs goes by it.
-#[tactic(auto, using(lists::proofs::ByPlace::same_pointwise))]
+#[tactic(auto, using(lists::proofs::ByPlace::same_pointwise, lists::proofs::ByPlace::same_not, std::proofs::lemmas::List::take_all))]
 pub fn same(a: &[u8], b: &[u8]) -> bool
     ensures { result ≡ same_list a.now b.now }
 {

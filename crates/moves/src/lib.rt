@@ -4,7 +4,7 @@
 ghost use Rattle.std.specs.Prelude.{◌≡◌, ◌+◌, ◌*◌, ◌≤◌, ◌<◌, length};
 ghost use Rattle.paper.specs.Chart.{k_of, letters};
 ghost use Rattle.paper.specs.Lists.{in_front};
-ghost use Rattle.kinds.specs.Kinds.{grades_in, next_row, made};
+ghost use Rattle.kinds.specs.Kinds.{grades_in, next_row, made, Ready};
 ghost use Rattle.kinds.specs.Ready.{Value, Reverses};
 
 use kinds::Kind;
@@ -40,18 +40,19 @@ pub fn put_next_row(
     }
 }
 
-// A vector, into the front of `out`.
-#[tactic(auto, unfolding(paper::specs::Lists::in_front))]
+// A vector, into the front of `out`, place by place: a copy in one call would need `memmove` of whoever links the archive for C.
 fn put(v: &[u8], out: &mut [u8])
     requires { length v.now ≤ length out.old }
     ensures { out.new ≡ in_front v.now out.old }
 {
-    out[..v.len()].copy_from_slice(v);
+    for p in 0..v.len() {
+        out[p] = v[p];
+    }
 }
 
 // The first value, into the front of `out`.
 pub fn put_first(plan: &Plan, out: &mut [u8])
-    requires { plan.now.width ≤ length out.old }
+    requires { Ready plan.now × (plan.now.width ≤ length out.old) }
     ensures { out.new ≡ in_front (made plan.now).first out.old }
 {
     match plan.kind {
@@ -63,7 +64,7 @@ pub fn put_first(plan: &Plan, out: &mut [u8])
 
 // What letter x makes of the value v, into the front of `out`.
 pub fn step_into(plan: &Plan, x: usize, v: &[u8], out: &mut [u8])
-    requires { (x < letters plan.now.chart.now) × Value (k_of plan.now.chart.now) plan.now.width v.now × (plan.now.width ≤ length out.old) }
+    requires { Ready plan.now × (x < letters plan.now.chart.now) × Value (k_of plan.now.chart.now) plan.now.width v.now × (plan.now.width ≤ length out.old) }
     ensures { out.new ≡ in_front ((made plan.now).step x v.now) out.old }
 {
     match plan.kind {

@@ -13,7 +13,7 @@ use next_pairs::{grade_holds, next_holds};
 use replies::Refusal;
 
 // The first letter by which line i's next pair is not on the sheet.
-fn bad_next(indexed: &IndexedSheet, i: usize) -> Option<usize>
+pub fn bad_next(indexed: &IndexedSheet, i: usize) -> Option<usize>
     requires { i < indexed.now.sheet.lines }
     ensures { result ≡ place_for (letters indexed.now.sheet.chart.now) (least_fail (letters indexed.now.sheet.chart.now) (next_held indexed.now.sheet i)) }
 {

@@ -3,11 +3,11 @@ use mathlib.Core.Path.{◌≡◌, refl, sym, ap, ◌∙◌}
 use mathlib.Core.List.{List, [], ◌∷◌, ◌++◌, append_assoc, append-nil}
 use Prim.Native.Nat.{ℕ, zero, suc, ◌+◌, ◌-◌, ◌*◌, ◌≤◌, ◌<◌}
 use native.Mathlib.Nat.{zero-mul, suc-mul, mul-le-mul_right, le_refl}
-use native.Mathlib.Numerals.{add-one}
+use native.Mathlib.Numerals.{add-one, add-two}
 use native.Mathlib.Omega.{arith}
 use native.Mathlib.Decide.{dec_lt}
-use lib.ListN.{length, get_or, take, drop, length-append, length-take, length-drop, get_or-append, drop_of_length-le}
-use lib.Seq.{take-add, take_at, drop_at, take_all, drop-drop, length-take-le, drop-append-add, get_or-take, get_or-drop, ext_get_or}
+use lib.ListN.{length, get_or, take, drop, set, length-append, length-take, length-drop, get_or-append, drop_of_length-le}
+use lib.Seq.{take-add, set_split, set_at, drop-cons, append_snoc, take_at, drop_at, take_all, drop-drop, length-take-le, drop-append-add, get_or-take, get_or-drop, ext_get_or}
 use borrow.Rule.Slice.PartMut.{put_mid}
 use Rattle.paper.specs.Lists.{tabulate, in_front, joined, part}
 use Rattle.lists.proofs.ByPlace.{tabulate_cong}
@@ -123,3 +123,12 @@ pub joined_part : (w n : ℕ) (xs : List ℕ) → joined n (λ s. part w s xs) �
 unfolding joined part
 joined_part w zero xs = rw zero-mul
 joined_part w (suc n) xs = rw (suc-mul, take-add, joined_part w n xs)
+
+-- ---- two bytes side by side
+
+pub set_two : (row : List ℕ) (at a b : ℕ) → at + 2 ≤ length row → set (set row at a) (at + 1) b ≡ spliced at (a ∷ b ∷ []) row
+unfolding spliced
+set_two row at a b h =
+    let l : at < length row = omega arith in
+    let l' : suc at < length row = omega arith in
+    rw (set_split row at a l, drop-cons row (suc at) 0 l', ← append_snoc (take at row) a, set_at (take at row ++ (a ∷ [])) _ _ b (at + 1) (rw (length-append, length-take-le at row (omega arith))), append_snoc, add-two)

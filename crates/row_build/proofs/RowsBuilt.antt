@@ -1,5 +1,5 @@
 -- The reverse table and the rows over it built, from their parts. Assumes nothing.
-use mathlib.Core.Path.{◌≡◌, refl, ap, ◌∙◌}
+use mathlib.Core.Path.{◌≡◌, ap, ◌∙◌}
 use mathlib.Core.Bool.{true, false≢true}
 use mathlib.Core.List.{List, [], ◌∷◌, ◌++◌}
 use Prim.Native.Nat.{ℕ, suc, ◌*◌, ◌≤◌, ◌<◌}
@@ -22,12 +22,12 @@ use Rattle.numbering.proofs.TableBytes.{in_front_lem, grade_back, next_back}
 use Rattle.algebra.proofs.Checked.{sound}
 use Rattle.algebra.proofs.Vectors.{Grades, start_grades, end_grades, col_grades, combine_low}
 use Rattle.kinds.specs.Kinds.{grades_in, next_row, next_row_at, made_by}
-use Rattle.kinds.specs.Ready.{Reverses, Ready}
+use Rattle.kinds.specs.Ready.{Reverses, Sized}
 use Rattle.walk.specs.Walked.{Makes}
 use Rattle.row_build.specs.Lent.{lent}
 use Rattle.kinds.specs.declared.Kind.{Kind}
 use Rattle.rooms.proofs.Rooms.{Roomy, roomy}
-use Rattle.walk.proofs.VectorPlan.{vector_ready}
+use Rattle.walk.proofs.VectorPlan.{vector_sized}
 use Rattle.row_build.proofs.SameSteps.{states_same, table_same}
 
 module _ (c : List ℕ) (fits : chart_fits c ≡ true) (room reverse : ℕ) (table rt rv rows : List ℕ)
@@ -44,8 +44,8 @@ module _ (c : List ℕ) (fits : chart_fits c ≡ true) (room reverse : ℕ) (tab
   unfolding backward_room
   back_rooms = roomy _ _ _ _ _ _ (both_split _ _ ok).1
 
-  pub back_ready : (t : List ℕ) {n : ℕ} → n ≡ n_of c → Ready Kind.Reverse c t n n reverse
-  back_ready t e = vector_ready Kind.Reverse c refl fits back_rooms (omega arith) t e
+  pub back_sized : {n : ℕ} → n ≡ n_of c → Sized Kind.Reverse c n n reverse
+  back_sized e = vector_sized Kind.Reverse c fits back_rooms (omega arith) e
 
   -- too many reverse vectors
   pub back_full : reverse < length (states_of (reverse_by c) (letters c) reverse) → {t t' v' w : List ℕ} → t ≡ zeros table → t' ≡ zeros rt → v' ≡ zeros rv → w ≡ zeros rows →
@@ -94,25 +94,27 @@ module _ (c : List ℕ) (fits : chart_fits c ≡ true) (room reverse : ℕ) (tab
     unfolding reverse_states states_of
     some = states_some itself (times_col c) (letters c) reverse (end_vec c)
 
-    reverses : length rt' ≡ length rt → Reverses rt' (letters c) (k_of c) (length fs)
+    pub reverses : length rt' ≡ length rt → Reverses rt' (letters c) (k_of c) count
     unfolding start_grade
     reverses l =
-        record {
+        rw
+        count_is
+        (record {
           long =
               let n : length fs * row_size (letters c) ≤ reverse * row_size (letters c) = mul-le-mul_right (row_size (letters c)) few in
               rw l (omega (arith, back_rooms.rows));
           grades = λ i b. rw (grade_is i b) (combine_low c (sound c fits) _ _ (start_grades c (sound c fits)) (graded i b));
           nexts = λ i x b g. rw (next_is i x b g) (closed i b x g);
-        }
+        })
 
-    pub rows_ready : length rt' ≡ length rt → Ready Kind.Rows c rt' count reverse room
-    rows_ready l =
+    -- rows of w bytes fit their places
+    pub rows_sized : (w : ℕ) → count ≤ w → w ≤ reverse → Sized Kind.Rows c w reverse room
+    rows_sized w low high =
         record {
           fits = fits;
           vectors = λ q. absurd (false≢true q);
-          rows = λ q. rw count_is (reverses l);
           width_low = omega (arith, some, count_is);
-          inside = d.roomy;
+          inside = high;
           stride_high = back_rooms.high;
           room_low = rooms.low;
           room_high = rooms.high;

@@ -31,10 +31,10 @@ module _ (p : Plan) (x : ℕ) (v old : List ℕ) (index : Index) (q : List ℕ) 
   new = put_mid (held * p.stride) (length old - held * p.stride) old q
 
   value : Value (k_of p.chart.now) p.width ((made p).step x v)
-  value = made_step p x lx v a.value
+  value = made_step p a.ready x lx v a.value
 
   inside : p.width ≤ p.stride
-  inside = p.ready.inside
+  inside = p.sized.inside
 
   within : held * p.stride + p.width ≤ length old
   within = omega (arith, place_inside a.holds.valued held a.roomy, inside)

@@ -3,7 +3,7 @@ use Rattle.std.specs.Prelude.{◌≡◌, List, ℕ, suc, ◌≤◌}
 use Rattle.kinds.specs.declared.plan.Plan.{Plan}
 use Rattle.paper.specs.Chart.{k_of}
 use Rattle.paper.specs.Numbering.{place, kept}
-use Rattle.kinds.specs.Kinds.{made}
+use Rattle.kinds.specs.Kinds.{made, Ready}
 use Rattle.kinds.specs.Ready.{Value}
 use Rattle.places.specs.Memory.{Apart}
 use Rattle.marks.specs.declared.chains.Index.{Index}
@@ -18,6 +18,7 @@ pub record Settles (p : Plan) (x : ℕ) (v old new : List ℕ) (index : Index) (
 
 -- what taking the letters of a value asks for
 pub record Asks (p : Plan) (held : ℕ) (v vectors : List ℕ) (index : Index) : Type 0 where
+  pub ready : Ready p
   pub roomy : held ≤ p.room
   pub value : Value (k_of p.chart.now) p.width v
   pub holds : Holds p vectors index held

@@ -11,6 +11,7 @@ use chart::open;
 use index::IndexedSheet;
 use lines::sheet::Sheet;
 use lines::sheet_fits;
+use marks::chains::Index;
 use next_pairs::start_holds;
 use replies::Refusal;
 use sheet_lines::check_lines;
@@ -19,7 +20,8 @@ use sheet_lines::check_lines;
 fn check_pairs(sheet: Sheet) -> Result<(), Refusal>
     ensures { verdict_said result ≡ pairs_answer sheet.entry }
 {
-    let indexed = IndexedSheet::new(sheet);
+    let mut index = Index::new();
+    let indexed = IndexedSheet::new(sheet, &mut index);
     if !start_holds(&indexed) {
         return Err(Refusal::Start);
     }

@@ -37,9 +37,10 @@ pub(crate) fn join_rows(chart: &Chart, x: usize, v: &[u8], out: &mut [u8])
     requires { (x < letters chart.now) × Vector chart.now v.now × Blank (n_of chart.now) out.old }
     ensures { out.new ≡ in_front (row_times chart.now x v.now) out.old }
 {
+    let own = chart.copy();
     let shape = chart.shape();
     for p in 0..shape.n {
-        join_row(chart, x, p, v[p], out);
+        join_row(&own, x, p, v[p], out);
     }
 }
 

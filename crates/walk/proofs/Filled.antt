@@ -96,10 +96,10 @@ front_spliced stride new old = rw (zero-mul, zero-add)
 
 module _ (p : Plan) (table old first : List ℕ) (a : GrowAsks p table old) (wrote : first ≡ in_front (made p).first old) where
   value : Value (k_of p.chart.now) p.width (made p).first
-  value = made_first p
+  value = made_first p a.ready
 
   inside : p.width ≤ p.stride
-  inside = p.ready.inside
+  inside = p.sized.inside
 
   whole : first ≡ spliced (0 * p.stride) (made p).first old
   whole = wrote ∙ front_spliced p.stride (made p).first old

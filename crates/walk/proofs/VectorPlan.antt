@@ -9,7 +9,7 @@ use Rattle.paper.specs.Chart.{n_of, letters}
 use Rattle.paper.specs.Check.{chart_fits}
 use Rattle.algebra.proofs.Checked.{fits_ranged, head_sizes}
 use Rattle.kinds.specs.Kinds.{made_by}
-use Rattle.kinds.specs.Ready.{of_vectors, Ready}
+use Rattle.kinds.specs.Ready.{of_vectors, Sized}
 use Rattle.walk.specs.Walked.{GrowAsks}
 use Rattle.kinds.specs.declared.Kind.{Kind}
 use Rattle.kinds.specs.declared.Kind.TheVariants.{Nerode, Reduced, Reverse, Rows}
@@ -27,15 +27,14 @@ made_alike Reduced c t t' m r e = refl
 made_alike Reverse c t t' m r e = refl
 made_alike Rows c t t' m r e = absurd (false≢true e)
 
-module _ (kind : Kind) (c : List ℕ) (v : of_vectors kind ≡ true) (fits : chart_fits c ≡ true) {most n room table vectors : ℕ} (r : Roomy most (letters c) (n_of c) room table vectors)
+module _ (kind : Kind) (c : List ℕ) (fits : chart_fits c ≡ true) {most n room table vectors : ℕ} (r : Roomy most (letters c) (n_of c) room table vectors)
     (l : most ≤ 4096) where
-  pub vector_ready : (t : List ℕ) → n ≡ n_of c → Ready kind c t n n room
-  vector_ready t e =
+  pub vector_sized : n ≡ n_of c → Sized kind c n n room
+  vector_sized e =
       let z = head_sizes c (fits_ranged c fits) in
       record {
         fits = fits;
         vectors = λ _. e;
-        rows = λ q. absurd (no_rows kind v q);
         width_low = omega (arith, z.n_low);
         inside = omega arith;
         stride_high = omega (arith, z.n_high);
@@ -43,6 +42,6 @@ module _ (kind : Kind) (c : List ℕ) (v : of_vectors kind ≡ true) (fits : cha
         room_high = omega (arith, r.high);
       }
 
-pub vector_asks : (p : Plan) {most : ℕ} {table vectors : List ℕ} → p.stride ≡ n_of p.chart.now → Roomy most (letters p.chart.now) (n_of p.chart.now) p.room (length table) (length vectors) →
+pub vector_asks : (p : Plan) {most : ℕ} {table vectors : List ℕ} → of_vectors p.kind ≡ true → p.stride ≡ n_of p.chart.now → Roomy most (letters p.chart.now) (n_of p.chart.now) p.room (length table) (length vectors) →
     GrowAsks p table vectors
-vector_asks p e r = record { table_fits = r.rows; fits = rw e r.places }
+vector_asks p v e r = record { ready = λ q. absurd (no_rows p.kind v q); table_fits = r.rows; fits = rw e r.places }

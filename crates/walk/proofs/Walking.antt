@@ -47,7 +47,7 @@ module _ (p : Plan) (table₀ old : List ℕ) where
   walk_none index a =
       record {
         below = omega arith;
-        roomy = p.ready.room_low;
+        roomy = p.sized.room_low;
         table_long = refl;
         listed = refl;
         holds = a.holds;

@@ -7,7 +7,7 @@ use Rattle.paper.specs.Lists.{in_front}
 use Rattle.paper.specs.Numbering.{explored}
 use Rattle.paper.specs.Constructions.{Construction, states_of, table_of}
 use Rattle.paper.specs.Builders.{placed}
-use Rattle.kinds.specs.Kinds.{made}
+use Rattle.kinds.specs.Kinds.{made, Ready}
 use Rattle.marks.specs.declared.chains.Index.{Index}
 use Rattle.search.specs.Kept.{kept_in, Holds}
 use Rattle.places.specs.Memory.{Apart}
@@ -17,6 +17,7 @@ abbrev pub walked : Plan → List ℕ → List (List ℕ)
 walked p old = explored (made p).key (made p).step (letters p.chart.now) p.room (suc p.room) 0 (kept_in p 1 old)
 
 pub record WalkAsks (p : Plan) (table vectors : List ℕ) (index : Index) : Type 0 where
+  pub ready : Ready p
   pub holds : Holds p vectors index 1
   pub table_fits : p.room * row_size (letters p.chart.now) ≤ length table
 
@@ -33,6 +34,7 @@ WalkedAs p table table' old new (Some h) = Walked p table table' old new h
 
 -- a whole construction made in lent memory
 pub record GrowAsks (p : Plan) (table vectors : List ℕ) : Type 0 where
+  pub ready : Ready p
   pub table_fits : p.room * row_size (letters p.chart.now) ≤ length table
   pub fits : suc p.room * p.stride ≤ length vectors
 

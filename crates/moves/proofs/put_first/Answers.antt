@@ -4,10 +4,10 @@ use Rattle.kinds.proofs.KindLaws.{start_fits, end_fits}
 use Rattle.moves.proofs.put_first.Goals as goal
 
 pub put-requires : goal.put-requires
-put-requires c = start_fits c.args.plan.now c.in-Nerode.is c.start.ensures c.requires
+put-requires c = start_fits c.args.plan.now c.in-Nerode.is c.start.ensures c.requires.1
 
 pub put-requires-in-Reverse : goal.put-requires-in-Reverse
-put-requires-in-Reverse c = end_fits c.args.plan.now c.in-Reverse.is c.end.ensures c.requires
+put-requires-in-Reverse c = end_fits c.args.plan.now c.in-Reverse.is c.end.ensures c.requires.1
 
 pub returns-in-Nerode : goal.returns-in-Nerode
 returns-in-Nerode c =

@@ -1,6 +1,7 @@
 -- `reading::read_whole` meets its contract: each step is what `lines_read` makes of the lines, and of the check of the chart read.
 -- Assumes nothing.
 use mathlib.Core.Path.{sym}
+use native.Mathlib.Omega.{arith}
 use lib.Seq.{length-take-le}
 use Rattle.std.proofs.lemmas.Result.{err_from_is_err_and}
 use Rattle.reading.proofs.Whole.{whole_none, size_inside, whole_fine, whole_refused}
@@ -20,7 +21,7 @@ returns-in_err-size c =
 pub returns-in_err-shape : goal.returns-in_err-shape
 returns-in_err-shape c =
     let p = err_from_is_err_and c.from_residual-in_err-shape.result c.from_residual-in_err-shape.ensures.1 in
-    rw (p.1, p.2) (whole_refused _ _ _ c.read_lines.auto.chart _ c.read_lines.ensures _ c.in_ok-size.was _ c.check.ensures _ c.in_err-shape.was)
+    rw (p.1, p.2) (whole_refused _ _ _ c.read_lines.auto.chart _ c.read_lines.ensures _ c.in_ok-size.was _ (grind arith) _ c.in_err-shape.was)
 
 pub returns : goal.returns
-returns c = whole_fine _ _ _ c.read_lines.auto.chart _ c.read_lines.ensures _ c.in_ok-size.was _ c.check.ensures _ c.in_ok-shape.was
+returns c = whole_fine _ _ _ c.read_lines.auto.chart _ c.read_lines.ensures _ c.in_ok-size.was _ (grind arith) _ c.in_ok-shape.was

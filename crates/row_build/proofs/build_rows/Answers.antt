@@ -1,14 +1,16 @@
 -- `row_build::build_rows` meets its contract. Assumes nothing.
-use Rattle.row_build.proofs.RowsBuilt.{rooms, back_rooms, back_ready, back_full, rows_ready, rows_full, rows_done}
+use mathlib.Core.Path.{refl}
+use native.Mathlib.Omega.{arith}
+use Rattle.row_build.proofs.RowsBuilt.{rooms, back_rooms, back_sized, back_full, reverses, rows_sized, rows_full, rows_done}
 use Rattle.rooms.proofs.Rooms.{zeros_of}
 use Rattle.walk.proofs.VectorPlan.{vector_asks}
 use Rattle.row_build.proofs.build_rows.Goals as goal
 
 pub invariant_of-back : goal.invariant_of-back
-invariant_of-back c = record { ready = back_ready _ c.requires.0 _ _ _ _ _ _ c.requires.1 _ c.n-n.ensures.is }
+invariant_of-back c = record { sized = back_sized _ c.requires.0 _ _ _ _ _ _ c.requires.1 c.n-n.ensures.is }
 
 pub grow-requires : goal.grow-requires
-grow-requires c = vector_asks _ c.n-n.ensures.is (back_rooms _ c.requires.0 _ _ _ _ _ _ c.requires.1)
+grow-requires c = vector_asks _ refl c.n-n.ensures.is (back_rooms _ c.requires.0 _ _ _ _ _ _ c.requires.1)
 
 pub returns-in_default : goal.returns-in_default
 returns-in_default c =
@@ -17,12 +19,16 @@ returns-in_default c =
     (zeros_of c.args.reverse_vectors.now c.grow.new.vectors c.zero_all.ensures.2 c.grow.auto.vectors) c.zero_all.ensures.3
 
 pub invariant_of-plan : goal.invariant_of-plan
-invariant_of-plan c = record { ready = rows_ready _ c.requires.0 _ _ _ _ _ _ c.requires.1 c.n-n.ensures.is c.in-Some.ensures c.grow.auto.table }
+invariant_of-plan c = record { sized = rows_sized _ c.requires.0 _ _ _ _ _ _ c.requires.1 c.n-n.ensures.is c.in-Some.ensures _ (omega (arith, c.in-Some.ensures.roomy)) (omega (arith, c.in-Some.ensures.roomy)) }
 
 pub grow-requires-2 : goal.grow-requires-2
 grow-requires-2 c =
     let r = rooms _ c.requires.0 _ _ _ _ _ _ c.requires.1 in
-    record { table_fits = r.rows; fits = r.places }
+    record {
+      ready = λ _. reverses _ c.requires.0 _ _ _ _ _ _ c.requires.1 c.n-n.ensures.is c.in-Some.ensures c.grow.auto.table;
+      table_fits = r.rows;
+      fits = r.places;
+    }
 
 pub returns-in_default-grow : goal.returns-in_default-grow
 returns-in_default-grow c =

@@ -3,7 +3,7 @@ use mathlib.Core.List.{[]}
 use native.Mathlib.Omega.{arith}
 use Rattle.lists.proofs.Tests.{fell, held}
 use Rattle.vector_build.proofs.Built.{room_read, room_parts, build_room, build_full, build_done}
-use Rattle.walk.proofs.VectorPlan.{vector_ready, vector_asks}
+use Rattle.walk.proofs.VectorPlan.{vector_sized, vector_asks}
 use Rattle.rooms.proofs.Rooms.{zeros_of}
 use Rattle.vector_build.proofs.build.Goals as goal
 
@@ -15,12 +15,12 @@ returns-then-not-room_fits c =
 pub invariant_of-plan : goal.invariant_of-plan
 invariant_of-plan c =
     let ok = room_read c.args.kind _ c.requires.1 _ _ _ c.letters.ensures.is c.n-n.ensures.is (held c.room_fits.ensures c.if-not-room_fits.false) in
-    record { ready = vector_ready c.args.kind _ c.requires.0 c.requires.1 (room_parts c.args.kind _ c.requires.1 _ _ _ ok) (omega arith) _ c.n-n.ensures.is }
+    record { sized = vector_sized c.args.kind _ c.requires.1 (room_parts c.args.kind _ c.requires.1 _ _ _ ok) (omega arith) c.n-n.ensures.is }
 
 pub grow-requires : goal.grow-requires
 grow-requires c =
     let ok = room_read c.args.kind _ c.requires.1 _ _ _ c.letters.ensures.is c.n-n.ensures.is (held c.room_fits.ensures c.if-not-room_fits.false) in
-    vector_asks _ c.n-n.ensures.is (room_parts c.args.kind _ c.requires.1 _ _ _ ok)
+    vector_asks _ c.requires.0 c.n-n.ensures.is (room_parts c.args.kind _ c.requires.1 _ _ _ ok)
 
 pub returns-in_default : goal.returns-in_default
 returns-in_default c =

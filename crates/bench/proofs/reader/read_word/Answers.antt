@@ -11,7 +11,7 @@ pub loop-letter-init : goal.loop-letter-init
 unfolding reader_state
 loop-letter-init c =
     let e = c.new-reader.ensures in
-    record { leads = ap (λ s. after (reader_takes c.args.rows.now c.args.count c.args.m) s c.args.word.now) e.3; rows = ap (λ r. r.now) e.0; count = e.1; m = e.2 }
+    record { leads = ap (λ s. after (reader_takes c.args.rows.now c.args.count c.args.m) s c.args.word.now) (omega (arith, e.3)); rows = ap (λ r. r.now) e.0; count = e.1; m = e.2 }
 
 pub loop-letter-preserved : goal.loop-letter-preserved
 loop-letter-preserved c =

@@ -8,7 +8,7 @@ pub loop-p-init : goal.loop-p-init
 loop-p-init c = rowing_start _ _ _ _ (omega (arith, c.shape-shape.ensures.sizes.k_low, c.shape-shape.ensures.k_is)) c.requires.2
 
 pub loop-p-preserved : goal.loop-p-preserved
-loop-p-preserved c = rowing_more _ _ _ _ _ _ _ c.loop-p.invariant (omega (arith, c.shape-shape.ensures.n_is)) refl c.join_row.ensures (search)
+loop-p-preserved c = rowing_more _ _ _ _ _ _ _ c.loop-p.invariant (omega (arith, c.shape-shape.ensures.n_is)) refl (rw (← c.copy-own.ensures) c.join_row.ensures) (search)
 
 pub returns : goal.returns
 returns c = rowing_end _ _ _ _ _ c.loop-p.invariant (omega (arith, c.shape-shape.ensures.n_is))
