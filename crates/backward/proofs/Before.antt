@@ -5,6 +5,7 @@ use mathlib.Core.List.{List, []}
 use Prim.Native.Nat.{ℕ}
 use lib.ListN.{length}
 use Rattle.paper.specs.Lists.{both}
+use Rattle.paper.specs.Chart.{n_of, letters}
 use Rattle.paper.specs.Check.{chart_fits}
 use Rattle.replies.specs.Replies.{said}
 use Rattle.paper.specs.Builders.{room_fits, state_most, reverse_most, Lent, Backward, backward_room, brzozowski}
@@ -34,9 +35,15 @@ module _ (c : List ℕ) (room reverse : ℕ) (l : Lent) where
     pub both_opened : {left : Backward} → left ≡ brzozowski v room reverse l → left ≡ brzozowski c room reverse l
     both_opened p = p ∙ ap (λ (w : List ℕ). brzozowski w room reverse l) e.1
 
--- the rooms as the code tests them
+-- the rooms by the chart's own letters and states, whatever its bytes are
+pub rooms_tested : (c : List ℕ) (room reverse : ℕ) (table rt rv rows : List ℕ) {b : Bool} →
+    both (room_fits state_most (letters c) reverse room (length table) (length rows)) (room_fits reverse_most (letters c) (n_of c) reverse (length rt) (length rv)) ≡ b →
+    backward_room c room reverse (lent table rt rv rows) ≡ b
+unfolding backward_room
+rooms_tested c room reverse table rt rv rows e = e
+
+-- and as the code tests them, by its shape
 pub rooms_read : {c : List ℕ} {s : Shape} (room reverse : ℕ) (table rt rv rows : List ℕ) {b : Bool} → Shaped c s →
     both (room_fits state_most s.letters reverse room (length table) (length rows)) (room_fits reverse_most s.letters s.n reverse (length rt) (length rv)) ≡ b →
     backward_room c room reverse (lent table rt rv rows) ≡ b
-unfolding backward_room
-rooms_read room reverse table rt rv rows h e = rw (← h.letters_is, ← h.n_is) e
+rooms_read room reverse table rt rv rows h e = rooms_tested _ room reverse table rt rv rows (rw (← h.letters_is, ← h.n_is) e)

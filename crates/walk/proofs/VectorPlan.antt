@@ -8,7 +8,7 @@ use lib.ListN.{length}
 use Rattle.paper.specs.Chart.{n_of, letters}
 use Rattle.paper.specs.Check.{chart_fits}
 use Rattle.algebra.proofs.Checked.{fits_ranged, head_sizes}
-use Rattle.kinds.specs.Kinds.{made_by}
+use Rattle.kinds.specs.Kinds.{made_by, Ready}
 use Rattle.kinds.specs.Ready.{of_vectors, Sized}
 use Rattle.walk.specs.Walked.{GrowAsks}
 use Rattle.kinds.specs.declared.Kind.{Kind}
@@ -42,6 +42,11 @@ module _ (kind : Kind) (c : List ℕ) (fits : chart_fits c ≡ true) {most n roo
         room_high = omega (arith, r.high);
       }
 
+-- what growing asks of room and memory is there, where the plan is ready
+pub plan_asks : (p : Plan) {most : ℕ} {table vectors : List ℕ} → Ready p → p.stride ≡ n_of p.chart.now → Roomy most (letters p.chart.now) (n_of p.chart.now) p.room (length table) (length vectors) →
+    GrowAsks p table vectors
+plan_asks p a e r = record { ready = a; table_fits = r.rows; fits = rw e r.places }
+
 pub vector_asks : (p : Plan) {most : ℕ} {table vectors : List ℕ} → of_vectors p.kind ≡ true → p.stride ≡ n_of p.chart.now → Roomy most (letters p.chart.now) (n_of p.chart.now) p.room (length table) (length vectors) →
     GrowAsks p table vectors
-vector_asks p v e r = record { ready = λ q. absurd (no_rows p.kind v q); table_fits = r.rows; fits = rw e r.places }
+vector_asks p v e r = plan_asks p (λ q. absurd (no_rows p.kind v q)) e r
